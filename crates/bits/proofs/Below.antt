@@ -1,0 +1,60 @@
+-- Laws of the numbers below n that pass a test: what `every`, `howMany` and `first` say of each number.
+-- Assumes nothing.
+use mathlib.Core.Path.{_≡_, refl, ap, ap₂, sym, subst}
+use mathlib.Core.Logic.{⊎-elim}
+use mathlib.Core.Bool.{Bool, true, false, _&&_, Bool·beq}
+use Prim.Native.Nat.{ℕ, zero, suc, _+_, _<_, suc-le-suc}
+use native.Mathlib.Nat.{le-of-suc-le-suc, not-suc-le-zero, eq-or-lt-of-le, zero-lt-suc, le-refl, le-step}
+use lib.Dec.{T}
+use Rattle.bits.specs.Below.{digit, howMany, every, first}
+
+left : (a b : Bool) → T (a && b) → T a
+left true b t = tt
+left false b t = t
+
+right : (a b : Bool) → T (a && b) → T b
+right true b t = t
+right false b t = absurd t
+
+-- a test that antt computes over all the numbers below n holds at each of them
+pub each : (n : ℕ) (f : ℕ → Bool) → T (every n f) → (k : ℕ) → k < n → T (f k)
+each zero f t k h = absurd (not-suc-le-zero h)
+each (suc n) f t k h =
+    ⊎-elim (λ e. subst (λ (m : ℕ). T (f m)) (sym e) (right (every n f) (f n) t))
+    (λ l. each n f (left (every n f) (f n) t) k l)
+    (eq-or-lt-of-le (le-of-suc-le-suc h))
+
+same : (a b : Bool) → T (Bool·beq a b) → a ≡ b
+same true true t = refl
+same true false t = absurd t
+same false true t = absurd t
+same false false t = refl
+
+-- a rule of one number, computed at each of the numbers below n
+pub tested : (n : ℕ) (f g : ℕ → Bool) → T (every n (λ x. Bool·beq (f x) (g x))) → (x : ℕ) → x < n → f x ≡ g x
+tested n f g t x h = same (f x) (g x) (each n (λ x. Bool·beq (f x) (g x)) t x h)
+
+-- and of two, the second below m
+pub tested₂ : (n m : ℕ) (f g : ℕ → ℕ → Bool) → T (every n (λ x. every m (λ y. Bool·beq (f x y) (g x y))))
+    → (x y : ℕ) → x < n → y < m → f x y ≡ g x y
+tested₂ n m f g t x y hx hy = tested m (f x) (g x) (each n (λ x. every m (λ y. Bool·beq (f x y) (g x y))) t x hx) y hy
+
+-- two tests that agree below n count the same
+pub howMany-same : (n : ℕ) (f g : ℕ → Bool) → ((k : ℕ) → k < n → f k ≡ g k) → howMany n f ≡ howMany n g
+howMany-same zero f g e = refl
+howMany-same (suc n) f g e =
+    ap₂ (λ (x : ℕ) (b : Bool). x + digit b) (howMany-same n f g (λ k h. e k (le-step h))) (e n (le-refl (suc n)))
+
+-- the first number that passes, where it and those before it are known
+pub first-is : (n : ℕ) (f : ℕ → Bool) (i : ℕ) → i < n → ((k : ℕ) → k < i → f k ≡ false) → f i ≡ true → first n f ≡ i
+first-is zero f i h none here = absurd (not-suc-le-zero h)
+first-is (suc n) f zero h none here = rw here
+first-is (suc n) f (suc i) h none here =
+    rw (none 0 (zero-lt-suc i))
+    (ap suc (first-is n (λ k. f (suc k)) i (le-of-suc-le-suc h) (λ k l. none (suc k) (suc-le-suc l)) here))
+
+-- none passes
+pub first-none : (n : ℕ) (f : ℕ → Bool) → ((k : ℕ) → k < n → f k ≡ false) → first n f ≡ n
+first-none zero f none = refl
+first-none (suc n) f none =
+    rw (none 0 (zero-lt-suc n)) (ap suc (first-none n (λ k. f (suc k)) (λ k l. none (suc k) (suc-le-suc l))))
