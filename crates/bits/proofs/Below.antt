@@ -2,7 +2,7 @@
 -- Assumes nothing.
 use mathlib.Core.Path.{_≡_, refl, ap, ap₂, sym, subst}
 use mathlib.Core.Logic.{⊎-elim}
-use mathlib.Core.Bool.{Bool, true, false, _&&_, Bool·beq}
+use mathlib.Core.Bool.{Bool, true, false, cond, _&&_, Bool·beq}
 use Prim.Native.Nat.{ℕ, zero, suc, _+_, _<_, suc-le-suc}
 use native.Mathlib.Nat.{le-of-suc-le-suc, not-suc-le-zero, eq-or-lt-of-le, zero-lt-suc, le-refl, le-step}
 use lib.Dec.{T}
@@ -44,6 +44,13 @@ pub howMany-same : (n : ℕ) (f g : ℕ → Bool) → ((k : ℕ) → k < n → f
 howMany-same zero f g e = refl
 howMany-same (suc n) f g e =
     ap₂ (λ (x : ℕ) (b : Bool). x + digit b) (howMany-same n f g (λ k h. e k (le-step h))) (e n (le-refl (suc n)))
+
+-- and find the same first number
+pub first-same : (n : ℕ) (f g : ℕ → Bool) → ((k : ℕ) → k < n → f k ≡ g k) → first n f ≡ first n g
+first-same zero f g e = refl
+first-same (suc n) f g e =
+    rw (e 0 (zero-lt-suc n))
+    (ap (λ (x : ℕ). cond (g 0) 0 (suc x)) (first-same n (λ k. f (suc k)) (λ k. g (suc k)) (λ k h. e (suc k) (suc-le-suc h))))
 
 -- the first number that passes, where it and those before it are known
 pub first-is : (n : ℕ) (f : ℕ → Bool) (i : ℕ) → i < n → ((k : ℕ) → k < i → f k ≡ false) → f i ≡ true → first n f ≡ i

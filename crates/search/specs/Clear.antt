@@ -1,0 +1,13 @@
+-- "Clear highest priority ISR bit" (document 01, event 1): by the order in force; it does nothing on an empty ISR.
+use mathlib.Core.Bool.{cond}
+use Prim.Native.Nat.{ℕ}
+use lib.Dec.{ltb}
+use Rattle.bits.specs.Byte.{bit, withoutBit}
+use Rattle.search.specs.Order.{lastOf, channelAt, firstIn}
+
+-- the first ISR bit of the order cleared
+unfoldable pub clearFirst : ℕ → ℕ → ℕ
+clearFirst last isr = cond (ltb (firstIn last (bit isr)) 8) (withoutBit isr (channelAt last (firstIn last (bit isr)))) isr
+
+unfoldable pub clearHighest : ℕ → ℕ → ℕ → ℕ
+clearHighest isr mode pointer = clearFirst (lastOf mode pointer) isr

@@ -1,0 +1,3 @@
+pub mod Candidate
+pub mod Clear
+pub mod Order
