@@ -1,0 +1,9 @@
+pub mod Acknowledge
+pub mod Command
+pub mod Data
+pub mod Fields
+pub mod Figure4
+pub mod Line
+pub mod Reset
+pub mod Sound
+pub mod Status

@@ -1,0 +1,20 @@
+-- When a chip's record is sound (document 01, "A chip").
+use mathlib.Core.Bool.{Bool, true, _&&_}
+use Prim.Native.Nat.{ℕ}
+use lib.Dec.{leb}
+use lib.ListN.{getD}
+use Rattle.bits.specs.Below.{every}
+use Rattle.chip.specs.declared.Chip.{Chip}
+use Rattle.chip.specs.declared.Destination.{Destination}
+use Rattle.chip.specs.declared.Destination.the-variants.{Nowhere, Imr, Acr, Level}
+
+-- the chosen level at most 7, its place at most 4
+abbrev pub destinationSound : Destination → Bool
+destinationSound Nowhere = true
+destinationSound Imr = true
+destinationSound Acr = true
+destinationSound (Level level place) = leb level 7 && leb place 4
+
+-- codes at most 3, pointer at most 7, and the destination
+unfoldable pub chipSound : Chip → Bool
+chipSound c = every 8 (λ level. leb (getD (c .counts) level 0) 3) && leb (c .pointer) 7 && destinationSound (c .destination)
