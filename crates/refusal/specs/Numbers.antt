@@ -1,5 +1,5 @@
 -- Document 01, "Numbers handed back": the table, and "the first that applies, in this order".
-use mathlib.Core.Bool.{Bool, cond}
+use mathlib.Core.Bool.{Bool, true, false, cond}
 use mathlib.Core.List.{List, [], _∷_}
 use Prim.Native.Nat.{ℕ}
 use Rattle.refusal.specs.declared.Refusal.{Refusal}
@@ -24,6 +24,10 @@ refusalNumber UnknownKind = 12
 abbrev pub verdictNumber : Verdict → ℕ
 verdictNumber Accepted = 0
 verdictNumber (Refused why) = refusalNumber why
+
+abbrev pub isAccepted : Verdict → Bool
+isAccepted Accepted = true
+isAccepted (Refused why) = false
 
 -- of a list of tests, each with the refusal that it gives, the first that applies; accepted if none does
 abbrev pub firstOf : List (Bool × Refusal) → Verdict

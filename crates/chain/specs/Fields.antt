@@ -1,0 +1,47 @@
+-- A chain with one field replaced, and one of its chips. antt has no record update, so the whole record is spelt out in this file, and in no other.
+use mathlib.Core.Bool.{Bool, false}
+use mathlib.Core.List.{List}
+use Prim.Native.Nat.{ℕ, _+_}
+use lib.ListN.{getD, set, replicate}
+use Rattle.chip.specs.Fields.{zeroChip, noChip}
+use Rattle.chip.specs.declared.Chip.{Chip}
+use Rattle.chain.specs.declared.Chain.{Chain}
+use Rattle.chain.specs.declared.Reply.{Reply}
+use Rattle.chain.specs.declared.Response.{Response}
+use Rattle.chain.specs.declared.Response.the-variants.{Idle}
+
+unfoldable pub withChips : List Chip → Chain → Chain
+withChips new s =
+    record { count = s .count; chips = new; enable = s .enable; iack = s .iack; response = s .response; event = s .event }
+
+unfoldable pub withEnable : Bool → Chain → Chain
+withEnable new s =
+    record { count = s .count; chips = s .chips; enable = new; iack = s .iack; response = s .response; event = s .event }
+
+unfoldable pub withIack : Bool → Chain → Chain
+withIack new s =
+    record { count = s .count; chips = s .chips; enable = s .enable; iack = new; response = s .response; event = s .event }
+
+unfoldable pub withResponse : Response → Chain → Chain
+withResponse new s =
+    record { count = s .count; chips = s .chips; enable = s .enable; iack = s .iack; response = new; event = s .event }
+
+unfoldable pub withEvent : ℕ → Chain → Chain
+withEvent new s =
+    record { count = s .count; chips = s .chips; enable = s .enable; iack = s .iack; response = s .response; event = new }
+
+-- the chain of a refused start: count 0, all zero, without destination or response
+unfoldable pub zeroChain : Chain
+zeroChain = record { count = 0; chips = replicate 8 zeroChip; enable = false; iack = false; response = Idle; event = 0 }
+
+-- chip i of the chain
+abbrev pub chipAt : Chain → ℕ → Chip
+chipAt s i = getD (s .chips) i noChip
+
+-- the chain with chip i replaced
+unfoldable pub withChip : ℕ → Chip → Chain → Chain
+withChip i c s = withChips (set (s .chips) i c) s
+
+-- a response with one byte more delivered
+abbrev pub oneMore : Reply → Reply
+oneMore r = record { chip = r .chip; channel = r .channel; level = r .level; length = r .length; delivered = r .delivered + 1 }

@@ -1,0 +1,90 @@
+// One to eight chained Am9519A chips: the chain's record, the eight events, and the two views of one state.
+use chip::Chip;
+use refusal::Refusal;
+
+// A response that is under way, and how many of its bytes the chip has driven.
+pub struct Reply {
+    pub chip: u8,
+    pub channel: u8,
+    pub level: u8,
+    pub length: u8,
+    pub delivered: u8,
+}
+
+// At most one response is under way.
+pub enum Response {
+    Idle,
+    UnderWay(Reply),
+}
+
+// The chain: chip 0 first; records past the count are never changed. A level is true where it is high.
+pub struct Chain {
+    pub count: u8,
+    pub chips: [Chip; 8],
+    pub enable: bool,
+    pub iack: bool,
+    pub response: Response,
+    pub event: u16,
+}
+
+// The eight events, in the order of their kinds 1 to 8.
+pub enum Event {
+    // Chip and code.
+    Command(u8, u8),
+    // Chip and byte.
+    Data(u8, u8),
+    Status(u8),
+    Read(u8),
+    // Chip, channel and level.
+    Line(u8, u8, u8),
+    Enable(u8),
+    Fall,
+    Rise,
+}
+
+// What an event answers: a byte where one was driven or read.
+pub enum Answer {
+    Done,
+    Byte(u8),
+    Refused(Refusal),
+}
+
+// The answer, and the chain handed back.
+pub struct Outcome {
+    pub answer: Answer,
+    pub chain: Chain,
+}
+
+// The table of a chip's registers.
+pub struct Registers {
+    pub event: u16,
+    pub irr: u8,
+    pub isr: u8,
+    pub imr: u8,
+    pub acr: u8,
+    pub mode: u8,
+    pub status: u8,
+    pub waiting: u8,
+}
+
+// The picture of a chip's pins, and of the chain's.
+pub struct Pins {
+    pub event: u16,
+    pub ei: u8,
+    pub eo: u8,
+    // 0, 1, or 2 for released.
+    pub gint: u8,
+    pub rip: u8,
+    pub pause: u8,
+    pub iack: u8,
+}
+
+pub enum RegisterView {
+    Table(Registers),
+    NoTable(Refusal),
+}
+
+pub enum PinView {
+    Picture(Pins),
+    NoPicture(Refusal),
+}

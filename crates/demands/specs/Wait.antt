@@ -1,0 +1,99 @@
+-- What the third demand speaks of: a wait, a first pulse that reaches a chip, and the two counts. Over any chain and any list of events.
+use mathlib.Core.Bool.{Bool, true, false, not, _&&_}
+use mathlib.Core.List.{List, [], _∷_}
+use Prim.Native.Nat.{ℕ, _+_}
+use lib.Dec.{eqb}
+use Rattle.bits.specs.Below.{digit, every}
+use Rattle.bits.specs.Byte.{pending}
+use Rattle.chip.specs.Figure4.{isReset}
+use Rattle.chip.specs.Status.{isArmed, isPolled, isRotating, candidateOf}
+use Rattle.chip.specs.declared.Chip.{Chip}
+use Rattle.refusal.specs.Numbers.{isAccepted}
+use Rattle.search.specs.Candidate.{exists}
+use Rattle.chain.specs.Events.{eventOf, verdictOf}
+use Rattle.chain.specs.Fields.{chipAt}
+use Rattle.chain.specs.Pins.{isIdle}
+use Rattle.chain.specs.Pulse.{selected}
+use Rattle.chain.specs.declared.Chain.{Chain}
+use Rattle.chain.specs.declared.Event.{Event}
+use Rattle.chain.specs.declared.Event.the-variants.{Command, Data, Status, Read, Line, Enable, Fall, Rise}
+use Rattle.chain.specs.declared.Response.{Response}
+use Rattle.chain.specs.declared.Response.the-variants.{Idle, UnderWay}
+
+-- a chip that is armed, in interrupt mode and in rotating priority, and a request on it that is latched and unmasked
+abbrev pub waits : Chip → ℕ → Bool
+waits c channel = isArmed c && not (isPolled c) && isRotating c && pending (c .irr) (c .imr) channel
+
+abbrev pub isFall : Event → Bool
+isFall (Command i code) = false
+isFall (Data i byte) = false
+isFall (Status i) = false
+isFall (Read i) = false
+isFall (Line i channel level) = false
+isFall (Enable level) = false
+isFall Fall = true
+isFall Rise = false
+
+-- a first pulse: an accepted fall without a response under way. A refused fall is no pulse
+abbrev pub isFirstPulse : Event → Chain → Bool
+isFirstPulse e s = isFall e && isAccepted (verdictOf e s) && isIdle (s .response)
+
+-- the response is chip i's for the channel; or chip i's for another one
+abbrev pub isFor : ℕ → ℕ → Response → Bool
+isFor i channel Idle = false
+isFor i channel (UnderWay r) = eqb (r .chip) i && eqb (r .channel) channel
+
+abbrev pub isForAnother : ℕ → ℕ → Response → Bool
+isForAnother i channel Idle = false
+isForAnother i channel (UnderWay r) = eqb (r .chip) i && not (eqb (r .channel) channel)
+
+-- the event answers the request; or it is an acknowledge that the chip answers for another channel
+unfoldable pub answersIt : ℕ → ℕ → Event → Chain → Bool
+answersIt i channel e s = isFirstPulse e s && isFor i channel (selected s)
+
+unfoldable pub answersAnother : ℕ → ℕ → Event → Chain → Bool
+answersAnother i channel e s = isFirstPulse e s && isForAnother i channel (selected s)
+
+-- a command that resets chip i
+abbrev pub isResetOf : ℕ → Event → Bool
+isResetOf i (Command j code) = eqb j i && isReset code
+isResetOf i (Data j byte) = false
+isResetOf i (Status j) = false
+isResetOf i (Read j) = false
+isResetOf i (Line j channel level) = false
+isResetOf i (Enable level) = false
+isResetOf i Fall = false
+isResetOf i Rise = false
+
+-- the event resets chip i: a refused reset resets nothing
+abbrev pub resets : ℕ → Event → Chain → Bool
+resets i e s = isResetOf i e && isAccepted (verdictOf e s)
+
+-- the wait of a request on chip i: it waits before each event of the list, and no event resets the chip or answers the request
+unfoldable pub isWait : ℕ → ℕ → Chain → List Event → Bool
+isWait i channel s [] = true
+isWait i channel s (e ∷ es) =
+    waits (chipAt s i) channel && not (resets i e s) && not (answersIt i channel e s) && isWait i channel (eventOf e s .chain) es
+
+-- a first pulse that falls now reaches chip i: no response is under way, the chain's Enable In is high, every earlier chip is armed, and no
+-- earlier chip in interrupt mode has a request that it would answer
+unfoldable pub reaches : ℕ → Chain → Bool
+reaches i s =
+    isIdle (s .response) && s .enable && every i (λ j. isArmed (chipAt s j))
+    && every i (λ j. not (not (isPolled (chipAt s j)) && exists (candidateOf (chipAt s j))))
+
+-- a first pulse that reaches chip i with its in-service register empty
+unfoldable pub isCounted : ℕ → Event → Chain → Bool
+isCounted i e s = isFirstPulse e s && reaches i s && eqb (chipAt s i .isr) 0
+
+-- how many events of a list pass a test of the event and the chain just before it
+unfoldable pub along : (Event → Chain → Bool) → Chain → List Event → ℕ
+along test s [] = 0
+along test s (e ∷ es) = digit (test e s) + along test (eventOf e s .chain) es
+
+-- the acknowledges that chip i answers for its other channels, and the first pulses that reach it with ISR empty
+abbrev pub others : ℕ → ℕ → Chain → List Event → ℕ
+others i channel s es = along (answersAnother i channel) s es
+
+abbrev pub pulses : ℕ → Chain → List Event → ℕ
+pulses i s es = along (isCounted i) s es
