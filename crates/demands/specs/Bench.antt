@@ -62,3 +62,6 @@ irrOf i s = tabled (registerView i s) .registers .irr
 
 abbrev pub isrOf : ℕ → Chain → ℕ
 isrOf i s = tabled (registerView i s) .registers .isr
+
+abbrev pub imrOf : ℕ → Chain → ℕ
+imrOf i s = tabled (registerView i s) .registers .imr

@@ -7,12 +7,12 @@ use Rattle.chain.specs.Answers.{handed}
 use Rattle.chain.specs.Events.{eventOf}
 use Rattle.chain.specs.declared.Chain.{Chain}
 use Rattle.chain.specs.declared.Event.{Event}
-use Rattle.chain.specs.declared.Event.the-variants.{Command, Data, Status, Read, Fall, Rise}
-use Rattle.demands.specs.Bench.{Step, accepted, gives, refused, shows, onBench, gintPinOf, eiPinOf, pausePin, irrOf, isrOf}
+use Rattle.chain.specs.declared.Event.the-variants.{Command, Data, Status, Read, Line, Fall, Rise}
+use Rattle.demands.specs.Bench.{Step, accepted, gives, refused, shows, onBench, gintPinOf, eiPinOf, pausePin, irrOf, isrOf, imrOf}
 
--- K1 start, status: 40
+-- K1 start, status: 40. (As after reset, so all is masked)
 abbrev pub k1 : List Step
-k1 = gives (Status 0) 0x40 ∷ []
+k1 = gives (Status 0) 0x40 ∷ shows (imrOf 0) 0xFF ∷ []
 
 -- K2 then A1, status: 48
 abbrev pub k2 : List Step
@@ -49,19 +49,19 @@ k6 fourth =
     ∷ accepted Rise
     ∷ []
 
--- K7 two chips, only chip 1 armed with 0 pending and unmasked: fall stalls, chip 1 has EI 0
+-- K7 two chips, only chip 1 armed with 0 pending and unmasked: fall stalls, chip 1 has EI 0. (Pending by a falling edge on its line)
 abbrev pub k7 : List Step
 k7 =
     accepted (Command 1 0xA1)
     ∷ accepted (Command 1 0x28)
-    ∷ accepted (Command 1 0x58)
+    ∷ accepted (Line 1 0 0)
     ∷ shows (gintPinOf 1) 0
     ∷ accepted Fall
     ∷ shows pausePin 0
     ∷ shows (eiPinOf 1) 0
     ∷ []
 
--- K8 both armed, chip 0 has 7 pending, chip 1 has 0: chip 0 answers 7
+-- K8 both armed, chip 0 has 7 pending, chip 1 has 0: chip 0 answers 7. (Chip 1's is pending by a rising edge, M4 set)
 abbrev pub k8 : List Step
 k8 =
     accepted (Command 0 0xA1)
@@ -69,7 +69,11 @@ k8 =
     ∷ accepted (Command 0 0x2F)
     ∷ accepted (Command 0 0x5F)
     ∷ accepted (Command 1 0x28)
-    ∷ accepted (Command 1 0x58)
+    ∷ accepted (Command 1 0x90)
+    ∷ accepted (Line 1 0 0)
+    ∷ shows (irrOf 1) 0x00
+    ∷ accepted (Line 1 0 1)
+    ∷ shows (irrOf 1) 0x01
     ∷ gives Fall 0x00
     ∷ shows (irrOf 0) 0x00
     ∷ shows (isrOf 0) 0x80

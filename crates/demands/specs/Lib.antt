@@ -1,3 +1,4 @@
 pub mod Bench
 pub mod Cases
 pub mod Wait
+pub mod Worked

@@ -1,0 +1,2 @@
+pub mod Figure4
+pub mod Tried
