@@ -2,7 +2,7 @@
 -- Assumes nothing.
 use mathlib.Core.Path.{_≡_, ap, _∙_}
 use mathlib.Core.Bool.{Bool, not, _&&_}
-use Prim.Native.Nat.{ℕ, _+_, _-_, _<_}
+use Prim.Native.Nat.{ℕ, _-_, _<_}
 use native.Mathlib.Nat.{mod-lt}
 use lib.Bits.{bitAnd}
 use lib.Dec.{lit<}
@@ -13,7 +13,7 @@ use Rattle.search.specs.Order.{channelAt, firstIn}
 
 -- a place of an order has a channel of the chip
 pub channel-lt : (last place : ℕ) → channelAt last place < 8
-channel-lt last place = mod-lt (last + 1 + place) (lit< tt)
+channel-lt last place = mod-lt _ (lit< tt)
 
 -- two tests that agree on the channels find the same place
 pub firstIn-same : (last : ℕ) (f g : ℕ → Bool) → ((k : ℕ) → k < 8 → f k ≡ g k) → firstIn last f ≡ firstIn last g
