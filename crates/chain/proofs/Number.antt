@@ -37,28 +37,28 @@ not-zero ShortResults e = omega arith
 not-zero UnknownKind e = omega arith
 
 first-kept : (response : Response) (s : Chain) → firstPulse response s .event ≡ s .event
-unfolding firstPulse withIack withResponse withChip withChips
+unfolding firstPulse withResponse withChip withChips
 first-kept Idle s = refl
 first-kept (UnderWay r) s = refl
 
 fall-kept : (response : Response) (s : Chain) → fallen response s .event ≡ s .event
-unfolding fallen withIack withResponse
+unfolding fallen withResponse
 fall-kept Idle s = first-kept (selected s) s
 fall-kept (UnderWay r) s = refl
 
 rise-after-kept : (last : Bool) (r : Reply) (s : Chain) → risenAfter last r s .event ≡ s .event
-unfolding risenAfter withIack withResponse withChip withChips
+unfolding risenAfter withResponse withChip withChips
 rise-after-kept true r s = refl
 rise-after-kept false r s = refl
 
 rise-kept : (response : Response) (s : Chain) → risen response s .event ≡ s .event
-unfolding risen withIack
+unfolding risen
 rise-kept Idle s = refl
 rise-kept (UnderWay r) s = rise-after-kept (eqb (r .delivered) (r .length)) r s
 
 -- what an event does besides counting itself leaves the number alone
 pub number-kept : (e : Event) (s : Chain) → changed e s .event ≡ s .event
-unfolding changed withResponse withChip withChips withEnable
+unfolding changed withIack withResponse withChip withChips withEnable
 number-kept (Command i code) s = refl
 number-kept (Data i byte) s = refl
 number-kept (Status i) s = refl

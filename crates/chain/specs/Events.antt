@@ -12,13 +12,13 @@ use Rattle.refusal.specs.Numbers.{firstOf}
 use Rattle.refusal.specs.declared.Refusal.{Refusal}
 use Rattle.refusal.specs.declared.Refusal.the-variants.{NotSound, NoSuchChip, NoSuchChannel, NoSuchLevel, PulseUnderWay, IackThereAlready, UndefinedCommand, NoDestination, PastItsCount}
 use Rattle.refusal.specs.declared.Verdict.{Verdict}
-use Rattle.refusal.specs.declared.Verdict.the-variants.{Accepted, Refused as TurnedDown}
-use Rattle.chain.specs.Fields.{chipAt, withChip, withEnable, withEvent, withResponse}
+use Rattle.refusal.specs.declared.Verdict.the-variants.{Accepted}
+use Rattle.chain.specs.Fields.{chipAt, withChip, withEnable, withIack, withEvent, withResponse}
 use Rattle.chain.specs.Pins.{ei, isResponding}
 use Rattle.chain.specs.Pulse.{fallen, fallAnswer, risen}
 use Rattle.chain.specs.Sound.{sound}
 use Rattle.chain.specs.declared.Answer.{Answer}
-use Rattle.chain.specs.declared.Answer.the-variants.{Done, Byte, Refused}
+use Rattle.chain.specs.declared.Answer.the-variants.{Done, Byte}
 use Rattle.chain.specs.declared.Chain.{Chain}
 use Rattle.chain.specs.declared.Event.{Event}
 use Rattle.chain.specs.declared.Event.the-variants.{Command, Data, Status, Read, Line, Enable, Fall, Rise}
@@ -106,8 +106,8 @@ changed (Status i) s = s
 changed (Read i) s = s
 changed (Line i channel level) s = withChip i (lineSet channel (eqb level 1) (chipAt s i)) s
 changed (Enable level) s = withEnable (eqb level 1) s
-changed Fall s = fallen (s .response) s
-changed Rise s = risen (s .response) s
+changed Fall s = withIack false (fallen (s .response) s)
+changed Rise s = withIack true (risen (s .response) s)
 
 -- each accepted event adds one to the event number; from 65,535 it rolls over to 0
 unfoldable pub counted : Chain → Chain
@@ -115,7 +115,7 @@ counted s = withEvent ((s .event + 1) % 65536) s
 
 -- an event: refused events hand back the chain as given
 unfoldable pub judged : Verdict → Event → Chain → Outcome
-judged (TurnedDown why) e s = record { answer = Refused why; chain = s }
+judged (Verdict.Refused why) e s = record { answer = Answer.Refused why; chain = s }
 judged Accepted e s = record { answer = answerOf e s; chain = counted (changed e s) }
 
 unfoldable pub eventOf : Event → Chain → Outcome

@@ -14,12 +14,12 @@ use Rattle.search.specs.Order.{firstIn}
 use Rattle.chain.specs.Events.{verdictOf, changed, counted, judged, eventOf}
 use Rattle.chain.specs.Fields.{withChips, withChip, withEnable, withIack, withResponse, withEvent, zeroChain}
 use Rattle.chain.specs.Pins.{ei}
-use Rattle.chain.specs.Pulse.{winner, selected, firstPulse, fallen, fallAnswer, risen, risenAfter}
+use Rattle.chain.specs.Pulse.{answeringChip, selected, firstPulse, fallen, fallAnswer, risen, risenAfter}
 use Rattle.chain.specs.Sound.{sound}
 use Rattle.chain.specs.Start.{started, startOf}
 use Rattle.chain.specs.Views.{tableOr, pictureOr, registerView, pinView}
 use Rattle.demands.specs.Bench.{all}
 
 unfoldable pub rules : Unit {0}
-unfolding answered finished obey commanded written withIrr withIsr withImr withAcr withMode withCommand withMemory withCounts withLines withPointer withDestination zeroChip figure4 lineSet reset powerUp chipSound candidate candidateIn clearHighest clearFirst firstIn verdictOf changed counted judged eventOf withChips withChip withEnable withIack withResponse withEvent zeroChain ei winner selected firstPulse fallen fallAnswer risen risenAfter sound started startOf tableOr pictureOr registerView pinView all
+unfolding answered finished obey commanded written withIrr withIsr withImr withAcr withMode withCommand withMemory withCounts withLines withPointer withDestination zeroChip figure4 lineSet reset powerUp chipSound candidate candidateIn clearHighest clearFirst firstIn verdictOf changed counted judged eventOf withChips withChip withEnable withIack withResponse withEvent zeroChain ei answeringChip selected firstPulse fallen fallAnswer risen risenAfter sound started startOf tableOr pictureOr registerView pinView all
 rules = tt

@@ -8,11 +8,11 @@ use Rattle.refusal.specs.Numbers.{firstOf}
 use Rattle.refusal.specs.declared.Refusal.{Refusal}
 use Rattle.refusal.specs.declared.Refusal.the-variants.{BrokenEvent, ShortResults, UnknownKind}
 use Rattle.refusal.specs.declared.Verdict.{Verdict}
-use Rattle.refusal.specs.declared.Verdict.the-variants.{Accepted, Refused as TurnedDown}
+use Rattle.refusal.specs.declared.Verdict.the-variants.{Accepted}
 use Rattle.chain.specs.Answers.{Handed, handed}
 use Rattle.chain.specs.Events.{eventOf, notSound}
 use Rattle.chain.specs.declared.Answer.{Answer}
-use Rattle.chain.specs.declared.Answer.the-variants.{Done, Byte, Refused}
+use Rattle.chain.specs.declared.Answer.the-variants.{Done, Byte}
 use Rattle.chain.specs.declared.Chain.{Chain}
 use Rattle.chain.specs.declared.Outcome.{Outcome}
 use Rattle.run.specs.List.{listedAt}
@@ -40,7 +40,7 @@ shortResults bytes results = (ltb (length results) (2 * listLength bytes), Short
 -- a listed event: 12, kind outside 1 to 8, before the event's own refusals
 abbrev pub stepOf : Listed → Chain → Outcome
 stepOf (Known e) s = eventOf e s
-stepOf Unknown s = record { answer = Refused UnknownKind; chain = s }
+stepOf Unknown s = record { answer = Answer.Refused UnknownKind; chain = s }
 
 -- the n-th accepted event's two bytes: 1 and the byte driven or read, or 0 and 0
 abbrev pub noted : ℕ → Handed → List ℕ → List ℕ
@@ -50,7 +50,7 @@ noted n h results = set (set results (2 * n) (h .drove)) (2 * n + 1) (h .byte)
 abbrev pub goOn : {A : Type 0} → Answer → (Refusal → A) → A → A
 goOn Done stop on = on
 goOn (Byte b) stop on = on
-goOn (Refused why) stop on = stop why
+goOn (Answer.Refused why) stop on = stop why
 
 abbrev pub stopped : Verdict → ℕ → Chain → List ℕ → Report
 stopped verdict n s results = record { ran = record { verdict = verdict; accepted = n; chain = s }; results = results }
@@ -60,7 +60,7 @@ unfoldable pub runFrom : ℕ → List ℕ → ℕ → Chain → List ℕ → Rep
 runFrom zero bytes n s results = stopped Accepted n s results
 runFrom (suc left) bytes n s results =
     let o : Outcome = stepOf (listedAt bytes n) s in
-    goOn (o .answer) (λ why. stopped (TurnedDown why) n s results)
+    goOn (o .answer) (λ why. stopped (Verdict.Refused why) n s results)
     (runFrom left bytes (n + 1) (o .chain) (noted n (handed (o .answer)) results))
 
 -- how many events are accepted before the limit, the end or the first refusal
@@ -72,7 +72,7 @@ acceptedFrom (suc left) bytes n s =
 
 -- the run: 1, 10 and 11 before any event
 unfoldable pub runUnless : Verdict → Chain → List ℕ → ℕ → List ℕ → Report
-runUnless (TurnedDown why) s bytes limit results = stopped (TurnedDown why) 0 s results
+runUnless (Verdict.Refused why) s bytes limit results = stopped (Verdict.Refused why) 0 s results
 runUnless Accepted s bytes limit results = runFrom (min limit (listLength bytes)) bytes 0 s results
 
 unfoldable pub runOf : Chain → List ℕ → ℕ → List ℕ → Report

@@ -2,12 +2,12 @@
 use mathlib.Core.Bool.{cond}
 use Prim.Native.Nat.{ℕ}
 use lib.Dec.{ltb}
-use Rattle.bits.specs.Byte.{bit, withoutBit}
-use Rattle.search.specs.Order.{lastOf, channelAt, firstIn}
+use Rattle.bits.specs.Byte.{withoutBit}
+use Rattle.search.specs.Order.{lastOf, channelAt, fence}
 
 -- the first ISR bit of the order cleared
 unfoldable pub clearFirst : ℕ → ℕ → ℕ
-clearFirst last isr = cond (ltb (firstIn last (bit isr)) 8) (withoutBit isr (channelAt last (firstIn last (bit isr)))) isr
+clearFirst last isr = cond (ltb (fence last isr) 8) (withoutBit isr (channelAt last (fence last isr))) isr
 
 unfoldable pub clearHighest : ℕ → ℕ → ℕ → ℕ
 clearHighest isr mode pointer = clearFirst (lastOf mode pointer) isr

@@ -3,7 +3,7 @@
 use mathlib.Core.Bool.{Bool, cond}
 use Prim.Native.Nat.{ℕ, _+_, _%_}
 use Rattle.bits.specs.Below.{first}
-use Rattle.bits.specs.Byte.{bit}
+use Rattle.bits.specs.Byte.{bit, pending}
 
 -- the channel that ends the order in force: M0 set is rotating order, which ends with the pointer; M0 clear is fixed order, which ends with 7
 abbrev pub lastOf : ℕ → ℕ → ℕ
@@ -16,3 +16,11 @@ channelAt last place = (last + 1 + place) % 8
 -- the place, in the order that ends with `last`, of the first channel that passes a test; 8 if none does
 unfoldable pub firstIn : ℕ → (ℕ → Bool) → ℕ
 firstIn last f = first 8 (λ place. f (channelAt last place))
+
+-- the place of the first channel that is set in IRR and clear in IMR
+abbrev pub firstPending : ℕ → ℕ → ℕ → ℕ
+firstPending last irr imr = firstIn last (pending irr imr)
+
+-- the fence: the place of the first ISR bit
+abbrev pub fence : ℕ → ℕ → ℕ
+fence last isr = firstIn last (bit isr)
