@@ -1,13 +1,12 @@
 -- The two views of one state (document 01, "Views and runs"), and when a picture and a table agree.
 use mathlib.Core.Bool.{Bool, not, cond, _&&_}
-use mathlib.Core.List.{List, [], _∷_}
+use mathlib.Core.List.{[], _∷_}
 use mathlib.Core.Path.{_≡_}
 use Prim.Native.Nat.{ℕ}
 use lib.Dec.{eqb}
 use Rattle.bits.specs.Below.{digit}
 use Rattle.bits.specs.Byte.{bit}
 use Rattle.chip.specs.Status.{statusByte, waitingNumber}
-use Rattle.chip.specs.declared.Chip.{Chip}
 use Rattle.refusal.specs.Numbers.{firstOf}
 use Rattle.refusal.specs.declared.Verdict.{Verdict}
 use Rattle.refusal.specs.declared.Verdict.the-variants.{Accepted, Refused}

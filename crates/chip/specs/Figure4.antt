@@ -1,7 +1,7 @@
 -- Figure 4 of the data sheet: the one table from a command's code to its row. Each test writes the row's fixed bits as the figure has them,
 -- from bit 7 down; what is left of them are B2 B1 B0 (code % 8), M4 to M0 (code % 32), M6 M5 (code / 4 % 4), BY1 BY0 (code / 8 % 4), or X.
 use mathlib.Core.Bool.{Bool, true, false, cond}
-use Prim.Native.Nat.{ℕ, _/_, _%_, _+_}
+use Prim.Native.Nat.{ℕ, _/_, _%_}
 use lib.Dec.{eqb}
 use Rattle.chip.specs.declared.Command.the-variants.{Reset, ClearIrrAndImr, ClearIrrAndImrBit, ClearImr, ClearImrBit, SetImr, SetImrBit, ClearIrr, ClearIrrBit, SetIrr, SetIrrBit, ClearHighestIsr, ClearIsr, ClearIsrBit, LoadMode, LoadRead, LoadReadAndArm, LoadReadAndDisarm, PreselectImr, PreselectAcr, PreselectLevel}
 use Rattle.chip.specs.declared.Meaning.{Meaning}

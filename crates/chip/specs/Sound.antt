@@ -1,6 +1,5 @@
 -- When a chip's record is sound (document 01, "A chip").
 use mathlib.Core.Bool.{Bool, true, _&&_}
-use Prim.Native.Nat.{ℕ}
 use lib.Dec.{leb}
 use lib.ListN.{getD}
 use Rattle.bits.specs.Below.{every}

@@ -2,7 +2,7 @@
 -- Assumes nothing.
 use mathlib.Core.List.{List, [], _∷_}
 use mathlib.Core.Path.{_≡_, refl}
-use Prim.Native.Nat.{ℕ, zero, suc}
+use Prim.Native.Nat.{ℕ}
 use Rattle.search.specs.Candidate.{candidate, candidateIn, searchNumber}
 use Rattle.search.specs.Clear.{clearHighest, clearFirst}
 use Rattle.search.specs.Order.{lastOf, channelAt, firstIn}
