@@ -11,7 +11,8 @@ use Rattle.refusal.specs.declared.Refusal.the-variants.{NotSound, NoSuchChip, N
 use Rattle.refusal.specs.declared.Verdict.{Verdict}
 use Rattle.refusal.specs.declared.Verdict.the-variants.{Accepted, Refused}
 use Rattle.chain.specs.Answers.{handed}
-use Rattle.chain.specs.Events.{changed, counted, judged, eventOf, verdictOf}
+use Rattle.chain.specs.Events.{changed, counted, judged, eventOf}
+use Rattle.chain.specs.Refusals.{verdictOf}
 use Rattle.chain.specs.Fields.{withChips, withChip, withEnable, withIack, withResponse, withEvent}
 use Rattle.chain.specs.Pulse.{selected, firstPulse, fallen, risen, risenAfter}
 use Rattle.chain.specs.declared.Chain.{Chain}
@@ -54,7 +55,7 @@ rise-after-kept false r s = refl
 rise-kept : (response : Response) (s : Chain) → risen response s .event ≡ s .event
 unfolding risen
 rise-kept Idle s = refl
-rise-kept (UnderWay r) s = rise-after-kept (eqb (r .delivered) (r .length)) r s
+rise-kept (UnderWay r) s = rise-after-kept _ r s
 
 -- what an event does besides counting itself leaves the number alone
 pub number-kept : (e : Event) (s : Chain) → changed e s .event ≡ s .event

@@ -3,6 +3,7 @@ pub mod Events
 pub mod Fields
 pub mod Pins
 pub mod Pulse
+pub mod Refusals
 pub mod Sound
 pub mod Start
 pub mod Views

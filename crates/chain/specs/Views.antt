@@ -10,7 +10,7 @@ use Rattle.chip.specs.Status.{statusByte, waitingNumber}
 use Rattle.refusal.specs.Numbers.{firstOf}
 use Rattle.refusal.specs.declared.Verdict.{Verdict}
 use Rattle.refusal.specs.declared.Verdict.the-variants.{Accepted, Refused}
-use Rattle.chain.specs.Events.{notSound, noSuchChip}
+use Rattle.chain.specs.Refusals.{notSound, noSuchChip}
 use Rattle.chain.specs.Fields.{chipAt}
 use Rattle.chain.specs.Pins.{ei, eo, gint, rip, pause}
 use Rattle.chain.specs.declared.Chain.{Chain}

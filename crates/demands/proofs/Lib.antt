@@ -1,3 +1,4 @@
 pub mod Cases
+pub mod Misread
 pub mod Rules
 pub mod Worked

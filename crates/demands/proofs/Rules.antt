@@ -11,7 +11,8 @@ use Rattle.chip.specs.Sound.{chipSound}
 use Rattle.search.specs.Candidate.{candidate, candidateIn}
 use Rattle.search.specs.Clear.{clearHighest, clearFirst}
 use Rattle.search.specs.Order.{firstIn}
-use Rattle.chain.specs.Events.{verdictOf, changed, counted, judged, eventOf}
+use Rattle.chain.specs.Events.{changed, counted, judged, eventOf}
+use Rattle.chain.specs.Refusals.{verdictOf}
 use Rattle.chain.specs.Fields.{withChips, withChip, withEnable, withIack, withResponse, withEvent, zeroChain}
 use Rattle.chain.specs.Pins.{ei}
 use Rattle.chain.specs.Pulse.{answeringChip, selected, firstPulse, fallen, fallAnswer, risen, risenAfter}

@@ -54,6 +54,13 @@ gintPinOf i s = pictured (pinView i s) .pins .gint
 abbrev pub eiPinOf : ℕ → Chain → ℕ
 eiPinOf i s = pictured (pinView i s) .pins .ei
 
+abbrev pub eoPinOf : ℕ → Chain → ℕ
+eoPinOf i s = pictured (pinView i s) .pins .eo
+
+-- the chain's pins, in the view of chip 0
+abbrev pub ripPin : Chain → ℕ
+ripPin s = pictured (pinView 0 s) .pins .rip
+
 abbrev pub pausePin : Chain → ℕ
 pausePin s = pictured (pinView 0 s) .pins .pause
 

@@ -1,4 +1,5 @@
 pub mod Bench
 pub mod Cases
+pub mod Misread
 pub mod Wait
 pub mod Worked

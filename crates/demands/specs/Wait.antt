@@ -10,7 +10,8 @@ use Rattle.chip.specs.Status.{isArmed, isPolled, isRotating, candidateOf}
 use Rattle.chip.specs.declared.Chip.{Chip}
 use Rattle.refusal.specs.Numbers.{isAccepted}
 use Rattle.search.specs.Candidate.{exists}
-use Rattle.chain.specs.Events.{eventOf, verdictOf}
+use Rattle.chain.specs.Events.{eventOf}
+use Rattle.chain.specs.Refusals.{verdictOf}
 use Rattle.chain.specs.Fields.{chipAt}
 use Rattle.chain.specs.Pins.{isIdle}
 use Rattle.chain.specs.Pulse.{selected}

@@ -10,7 +10,8 @@ use Rattle.refusal.specs.declared.Refusal.the-variants.{BrokenEvent, ShortResul
 use Rattle.refusal.specs.declared.Verdict.{Verdict}
 use Rattle.refusal.specs.declared.Verdict.the-variants.{Accepted}
 use Rattle.chain.specs.Answers.{Handed, handed}
-use Rattle.chain.specs.Events.{eventOf, notSound}
+use Rattle.chain.specs.Events.{eventOf}
+use Rattle.chain.specs.Refusals.{notSound}
 use Rattle.chain.specs.declared.Answer.{Answer}
 use Rattle.chain.specs.declared.Answer.the-variants.{Done, Byte}
 use Rattle.chain.specs.declared.Chain.{Chain}

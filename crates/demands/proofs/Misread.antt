@@ -1,0 +1,10 @@
+-- The cases against the paper's misreadings, computed from the definitions.
+-- Assumes nothing.
+use mathlib.Core.Path.{refl}
+use Rattle.demands.specs.Cases.{Hold}
+use Rattle.demands.specs.Misread.{misreadings}
+use Rattle.demands.proofs.Rules.{rules}
+
+pub not-misread : Hold misreadings
+unfolding rules
+not-misread = (refl, (refl, (refl, (refl, (refl, tt)))))
