@@ -1,2 +1,3 @@
 pub mod Figure4
+pub mod Rules
 pub mod Tried

@@ -1,4 +1,3 @@
 pub mod Cases
 pub mod Misread
-pub mod Rules
 pub mod Worked

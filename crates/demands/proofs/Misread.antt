@@ -1,10 +1,11 @@
 -- The cases against the paper's misreadings, computed from the definitions.
 -- Assumes nothing.
 use mathlib.Core.Path.{refl}
+use Rattle.demands.specs.Bench.{all}
 use Rattle.demands.specs.Cases.{Hold}
 use Rattle.demands.specs.Misread.{misreadings}
-use Rattle.demands.proofs.Rules.{rules}
+use Rattle.chain.proofs.Rules.{rules}
 
 pub not-misread : Hold misreadings
-unfolding rules
+unfolding rules all
 not-misread = (refl, (refl, (refl, (refl, (refl, tt)))))

@@ -3,7 +3,7 @@
 use mathlib.Core.Path.{refl}
 use Rattle.demands.specs.Wait.{answersIt, answersAnother, isWait, reaches, isCounted, along}
 use Rattle.demands.specs.Worked.{allPending, WorkedWait}
-use Rattle.demands.proofs.Rules.{rules}
+use Rattle.chain.proofs.Rules.{rules}
 
 pub worked : WorkedWait
 unfolding rules allPending isWait answersIt answersAnother reaches isCounted along

@@ -1,0 +1,46 @@
+-- The definition of a run tried: limit, end and first refusal, the unused bytes, and refusals 1, 10, 11 and 12.
+-- Assumes nothing.
+use mathlib.Core.List.{List, [], _∷_}
+use mathlib.Core.Path.{_≡_, refl}
+use Prim.Native.Nat.{ℕ}
+use Rattle.refusal.specs.Numbers.{verdictNumber}
+use Rattle.chain.specs.Fields.{zeroChain}
+use Rattle.chain.specs.Start.{startOf}
+use Rattle.chain.proofs.Rules.{rules}
+use Rattle.run.specs.List.{listedAt}
+use Rattle.run.specs.Run.{Report, runFrom, runUnless, runOf}
+
+-- arm, status, a fall that stalls, and the fall again; the unused bytes are 9
+unfoldable pub events : List ℕ
+events = 1 ∷ 0 ∷ 9 ∷ 0xA1 ∷ 3 ∷ 0 ∷ 9 ∷ 9 ∷ 7 ∷ 9 ∷ 9 ∷ 9 ∷ 7 ∷ 9 ∷ 9 ∷ 9 ∷ []
+
+unfoldable pub buffer : List ℕ
+buffer = 0xEE ∷ 0xEE ∷ 0xEE ∷ 0xEE ∷ 0xEE ∷ 0xEE ∷ 0xEE ∷ 0xEE ∷ 0xEE ∷ []
+
+abbrev on : ℕ → Report
+on limit = runOf (startOf 1 0 .chain) events limit buffer
+
+abbrev numberOf : Report → ℕ
+numberOf r = verdictNumber (r .ran .verdict)
+
+-- past the list the first refusal stops it: three accepted, and the rest of the buffer untouched
+first-refusal : (numberOf (on 100) ≡ 6) × (on 100 .ran .accepted ≡ 3) × (on 100 .results ≡ 0 ∷ 0 ∷ 1 ∷ 0x48 ∷ 0 ∷ 0 ∷ 0xEE ∷ 0xEE ∷ 0xEE ∷ [])
+unfolding rules events buffer listedAt runFrom runUnless runOf
+first-refusal = (refl, refl, refl)
+
+-- the limit stops it with 0
+limited : (numberOf (on 2) ≡ 0) × (on 2 .ran .accepted ≡ 2) × (on 2 .results ≡ 0 ∷ 0 ∷ 1 ∷ 0x48 ∷ 0xEE ∷ 0xEE ∷ 0xEE ∷ 0xEE ∷ 0xEE ∷ [])
+unfolding rules events buffer listedAt runFrom runUnless runOf
+limited = (refl, refl, refl)
+
+abbrev oneChip : List ℕ → ℕ → List ℕ → ℕ
+oneChip bytes limit results = numberOf (runOf (startOf 1 0 .chain) bytes limit results)
+
+-- 1, 10 and 11 come before any event, whatever the limit; 12 at its event
+before : (numberOf (runOf zeroChain (7 ∷ []) 0 []) ≡ 1) × (oneChip (7 ∷ 0 ∷ 0 ∷ []) 0 [] ≡ 10) × (oneChip (7 ∷ 0 ∷ 0 ∷ 0 ∷ []) 0 (0 ∷ []) ≡ 11)
+unfolding rules runUnless runOf
+before = (refl, refl, refl)
+
+unknown-kind : oneChip (9 ∷ 0 ∷ 0 ∷ 0 ∷ []) 1 buffer ≡ 12
+unfolding rules buffer listedAt runFrom runUnless runOf
+unknown-kind = refl
