@@ -27,12 +27,16 @@ unfolding rules
 sound-starts = (refl, refl)
 
 -- every later call on a refused start gives 1
-after-a-refused-start : (handed (eventOf Fall zeroChain .answer) .number ≡ 1) × (tabled (registerView 0 zeroChain) .number ≡ 1)
+after-a-refused-start :
+    (handed (eventOf Fall zeroChain .answer) .number ≡ 1)
+    × (tabled (registerView 0 zeroChain) .number ≡ 1)
 unfolding rules
 after-a-refused-start = (refl, refl)
 
 -- a pointer above 7 in the count is not sound; past the count it is no matter
-pointers : (sound (withChip 1 (withPointer 8 (powerUp 0)) (started 2 0)) ≡ false) × (sound (withChip 2 (withPointer 8 (powerUp 0)) (started 2 0)) ≡ true)
+pointers :
+    (sound (withChip 1 (withPointer 8 (powerUp 0)) (started 2 0)) ≡ false)
+    × (sound (withChip 2 (withPointer 8 (powerUp 0)) (started 2 0)) ≡ true)
 unfolding rules
 pointers = (refl, refl)
 
@@ -41,7 +45,11 @@ abbrev pair : ℕ → Chain
 pair delivered = withResponse (UnderWay (record { chip = 1; channel = 7; level = 0; length = 2; delivered = delivered })) (started 2 0)
 
 -- at least 1 byte, at most the length with IACK low, fewer with IACK high
-deliveries : (sound (pair 0) ≡ false) × (sound (pair 1) ≡ true) × (sound (pair 2) ≡ false) × (sound (withIack false (pair 2)) ≡ true)
+deliveries :
+    (sound (pair 0) ≡ false)
+    × (sound (pair 1) ≡ true)
+    × (sound (pair 2) ≡ false)
+    × (sound (withIack false (pair 2)) ≡ true)
 unfolding rules
 deliveries = (refl, refl, refl, refl)
 
@@ -49,16 +57,23 @@ abbrev numberOf : Event → Chain → ℕ
 numberOf e s = handed (eventOf e s .answer) .number
 
 -- where several refusals apply, the first of the table is given: 2 before 5 and 7, 5 before 7, 3 before 4
-orders : (numberOf (Command 2 0x01) (withIack false (started 2 0)) ≡ 2) × (numberOf (Command 1 0x01) (withIack false (started 2 0)) ≡ 5) × (numberOf (Line 1 8 2) (started 2 0) ≡ 3)
+orders :
+    (numberOf (Command 2 0x01) (withIack false (started 2 0)) ≡ 2)
+    × (numberOf (Command 1 0x01) (withIack false (started 2 0)) ≡ 5)
+    × (numberOf (Line 1 8 2) (started 2 0) ≡ 3)
 unfolding rules
 orders = (refl, refl, refl)
 
 -- a line moves during a pulse too, so its bad level is 4; a data write without destination is 8
-others : (numberOf (Line 1 7 2) (withIack false (started 2 0)) ≡ 4) × (numberOf (Data 1 0x00) (started 2 0) ≡ 8)
+others :
+    (numberOf (Line 1 7 2) (withIack false (started 2 0)) ≡ 4)
+    × (numberOf (Data 1 0x00) (started 2 0) ≡ 8)
 unfolding rules
 others = (refl, refl)
 
 -- a view is given during a pulse, and refused by 2 for an absent chip
-views : (tabled (registerView 1 (withIack false (started 2 0))) .number ≡ 0) × (pictured (pinView 2 (started 2 0)) .number ≡ 2)
+views :
+    (tabled (registerView 1 (withIack false (started 2 0))) .number ≡ 0)
+    × (pictured (pinView 2 (started 2 0)) .number ≡ 2)
 unfolding rules
 views = (refl, refl)

@@ -24,12 +24,29 @@ use Rattle.chain.specs.declared.Registers.{Registers}
 -- the register view of chip i
 abbrev pub tableOf : ℕ → Chain → Registers
 tableOf i s =
-    record { event = s .event; irr = chipAt s i .irr; isr = chipAt s i .isr; imr = chipAt s i .imr; acr = chipAt s i .acr; mode = chipAt s i .mode; status = statusByte (chipAt s i) (ei s i); waiting = waitingNumber (chipAt s i) }
+    record {
+      event = s .event;
+      irr = chipAt s i .irr;
+      isr = chipAt s i .isr;
+      imr = chipAt s i .imr;
+      acr = chipAt s i .acr;
+      mode = chipAt s i .mode;
+      status = statusByte (chipAt s i) (ei s i);
+      waiting = waitingNumber (chipAt s i);
+    }
 
 -- the pin view of chip i
 abbrev pub pictureOf : ℕ → Chain → Pins
 pictureOf i s =
-    record { event = s .event; ei = digit (ei s i); eo = digit (eo s i); gint = gint s i; rip = digit (rip s); pause = digit (pause s); iack = digit (s .iack) }
+    record {
+      event = s .event;
+      ei = digit (ei s i);
+      eo = digit (eo s i);
+      gint = gint s i;
+      rip = digit (rip s);
+      pause = digit (pause s);
+      iack = digit (s .iack);
+    }
 
 -- a view names a chip, so it takes refusals 1 and 2
 abbrev pub viewVerdict : ℕ → Chain → Verdict

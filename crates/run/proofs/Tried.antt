@@ -24,12 +24,18 @@ abbrev numberOf : Report → ℕ
 numberOf r = verdictNumber (r .ran .verdict)
 
 -- past the list the first refusal stops it: three accepted, and the rest of the buffer untouched
-first-refusal : (numberOf (on 100) ≡ 6) × (on 100 .ran .accepted ≡ 3) × (on 100 .results ≡ 0 ∷ 0 ∷ 1 ∷ 0x48 ∷ 0 ∷ 0 ∷ 0xEE ∷ 0xEE ∷ 0xEE ∷ [])
+first-refusal :
+    (numberOf (on 100) ≡ 6)
+    × (on 100 .ran .accepted ≡ 3)
+    × (on 100 .results ≡ 0 ∷ 0 ∷ 1 ∷ 0x48 ∷ 0 ∷ 0 ∷ 0xEE ∷ 0xEE ∷ 0xEE ∷ [])
 unfolding rules events buffer listedAt runFrom runUnless runOf
 first-refusal = (refl, refl, refl)
 
 -- the limit stops it with 0
-limited : (numberOf (on 2) ≡ 0) × (on 2 .ran .accepted ≡ 2) × (on 2 .results ≡ 0 ∷ 0 ∷ 1 ∷ 0x48 ∷ 0xEE ∷ 0xEE ∷ 0xEE ∷ 0xEE ∷ 0xEE ∷ [])
+limited :
+    (numberOf (on 2) ≡ 0)
+    × (on 2 .ran .accepted ≡ 2)
+    × (on 2 .results ≡ 0 ∷ 0 ∷ 1 ∷ 0x48 ∷ 0xEE ∷ 0xEE ∷ 0xEE ∷ 0xEE ∷ 0xEE ∷ [])
 unfolding rules events buffer listedAt runFrom runUnless runOf
 limited = (refl, refl, refl)
 
@@ -37,7 +43,10 @@ abbrev oneChip : List ℕ → ℕ → List ℕ → ℕ
 oneChip bytes limit results = numberOf (runOf (startOf 1 0 .chain) bytes limit results)
 
 -- 1, 10 and 11 come before any event, whatever the limit; 12 at its event
-before : (numberOf (runOf zeroChain (7 ∷ []) 0 []) ≡ 1) × (oneChip (7 ∷ 0 ∷ 0 ∷ []) 0 [] ≡ 10) × (oneChip (7 ∷ 0 ∷ 0 ∷ 0 ∷ []) 0 (0 ∷ []) ≡ 11)
+before :
+    (numberOf (runOf zeroChain (7 ∷ []) 0 []) ≡ 1)
+    × (oneChip (7 ∷ 0 ∷ 0 ∷ []) 0 [] ≡ 10)
+    × (oneChip (7 ∷ 0 ∷ 0 ∷ 0 ∷ []) 0 (0 ∷ []) ≡ 11)
 unfolding rules runUnless runOf
 before = (refl, refl, refl)
 

@@ -16,11 +16,17 @@ order mode pointer = places 0 ∷ places 1 ∷ places 2 ∷ places 3 ∷ places 
     places place = channelAt (lastOf mode pointer) place
 
 -- fixed order is 0 to 7; rotating order starts after the pointer and ends with it
-orders : (order 0x00 3 ≡ 0 ∷ 1 ∷ 2 ∷ 3 ∷ 4 ∷ 5 ∷ 6 ∷ 7 ∷ []) × (order 0x01 3 ≡ 4 ∷ 5 ∷ 6 ∷ 7 ∷ 0 ∷ 1 ∷ 2 ∷ 3 ∷ [])
+orders :
+    (order 0x00 3 ≡ 0 ∷ 1 ∷ 2 ∷ 3 ∷ 4 ∷ 5 ∷ 6 ∷ 7 ∷ [])
+    × (order 0x01 3 ≡ 4 ∷ 5 ∷ 6 ∷ 7 ∷ 0 ∷ 1 ∷ 2 ∷ 3 ∷ [])
 orders = (refl, refl)
 
 -- ISR bit 3, fixed: pending 3 alone is no candidate, pending 2 is; masked or disarmed it is none
-candidates : (candidate 0x08 0x00 0x08 0x80 7 ≡ Nobody) × (candidate 0x04 0x00 0x08 0x80 7 ≡ Channel 2) × (candidate 0x04 0x04 0x00 0x80 7 ≡ Nobody) × (candidate 0x04 0x00 0x00 0x00 7 ≡ Nobody)
+candidates :
+    (candidate 0x08 0x00 0x08 0x80 7 ≡ Nobody)
+    × (candidate 0x04 0x00 0x08 0x80 7 ≡ Channel 2)
+    × (candidate 0x04 0x04 0x00 0x80 7 ≡ Nobody)
+    × (candidate 0x04 0x00 0x00 0x00 7 ≡ Nobody)
 unfolding candidate candidateIn firstIn
 candidates = (refl, refl, refl, refl)
 
@@ -30,6 +36,9 @@ unfolding clearHighest clearFirst firstIn
 cleared = (refl, refl)
 
 -- the C caller's number: 254 for a pointer above 7, also in fixed order and disarmed; 255 for no candidate; else the channel
-numbers : (searchNumber 0xFF 0x00 0x00 0x00 8 ≡ 254) × (searchNumber 0x00 0x00 0x00 0x80 7 ≡ 255) × (searchNumber 0xF0 0x10 0x00 0x80 7 ≡ 5)
+numbers :
+    (searchNumber 0xFF 0x00 0x00 0x00 8 ≡ 254)
+    × (searchNumber 0x00 0x00 0x00 0x80 7 ≡ 255)
+    × (searchNumber 0xF0 0x10 0x00 0x80 7 ≡ 5)
 unfolding searchNumber candidate candidateIn firstIn
 numbers = (refl, refl, refl)

@@ -24,7 +24,14 @@ without-bit-requires c κs = search needs
 
 returns-2 : tie.Need-returns-2
 unfolding clearHighest clearFirst
-returns-2 c = simp (← c .before .before .before .before .last-of .ensures, ← c .before .before .before .first-set .ensures, lt-ltb _ _ (c .before .before .if1 .left), ← c .before .channel-at .ensures, c .without-bit .ensures)
+returns-2 c =
+    simp (
+      ← c .before .before .before .before .last-of .ensures,
+      ← c .before .before .before .first-set .ensures,
+      lt-ltb _ _ (c .before .before .if1 .left),
+      ← c .before .channel-at .ensures,
+      c .without-bit .ensures,
+    )
 
 pub clear-highest-spec : {M : Type 1} → statement M
 clear-highest-spec =
