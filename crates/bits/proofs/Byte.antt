@@ -10,7 +10,7 @@ use lib.Count.{ones, onesIn}
 use lib.Pow.{pow-mono}
 use borrow.Author.Tests.{lt-ltb}
 use Rattle.bits.specs.Below.{howMany, every}
-use Rattle.bits.specs.Byte.{bit, withBit, withoutBit, pending, waiting}
+use Rattle.bits.specs.Byte.{bit, withBit, withoutBit, isWaiting, waiting}
 use Rattle.bits.proofs.Below.{each, tested₂, howMany-same}
 
 -- a byte has no bit 8 or above
@@ -68,9 +68,12 @@ pub ones-sum : (x : ℕ) → x < 256 → ones x ≡ howMany 8 (bit x)
 unfolding ones onesIn
 ones-sum x h = eqb→eq (ones x) (howMany 8 (bit x)) (each 256 (λ x. eqb (ones x) (howMany 8 (bit x))) tt x h)
 
--- the number of ones in IRR that are clear in IMR is a sum over eight channels
+-- the requests that are set in IRR and clear in IMR are the bits of one byte
+pub bit-waiting : (irr imr k : ℕ) → imr < 256 → k < 8 → bit (bitAnd irr (255 - imr)) k ≡ isWaiting irr imr k
+bit-waiting irr imr k hm hk = bit-and irr (255 - imr) k ∙ ap (λ (b : Bool). bit irr k && b) (bit-not imr k hm hk)
+
+-- their number is a sum over eight channels
 pub waiting-sum : (irr imr : ℕ) → bitAnd irr (255 - imr) < 256 → imr < 256 → ones (bitAnd irr (255 - imr)) ≡ waiting irr imr
 waiting-sum irr imr h hm =
     ones-sum (bitAnd irr (255 - imr)) h
-    ∙ howMany-same 8 (bit (bitAnd irr (255 - imr))) (pending irr imr)
-    (λ k l. bit-and irr (255 - imr) k ∙ ap (λ (b : Bool). bit irr k && b) (bit-not imr k hm l))
+    ∙ howMany-same 8 (bit (bitAnd irr (255 - imr))) (isWaiting irr imr) (λ k l. bit-waiting irr imr k hm l)

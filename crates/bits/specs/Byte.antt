@@ -18,9 +18,9 @@ abbrev pub withoutBit : ℕ → ℕ → ℕ
 withoutBit x k = cond (ltb k 8) (bitAnd x (255 - 2 ^ k)) x
 
 -- channel k is set in IRR and clear in IMR
-abbrev pub pending : ℕ → ℕ → ℕ → Bool
-pending irr imr k = bit irr k && not (bit imr k)
+abbrev pub isWaiting : ℕ → ℕ → ℕ → Bool
+isWaiting irr imr k = bit irr k && not (bit imr k)
 
 -- the number of ones in IRR that are clear in IMR
 abbrev pub waiting : ℕ → ℕ → ℕ
-waiting irr imr = howMany 8 (pending irr imr)
+waiting irr imr = howMany 8 (isWaiting irr imr)

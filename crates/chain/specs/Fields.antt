@@ -1,4 +1,4 @@
--- A chain with one field replaced, and one of its chips. antt has no record update, so the whole record is spelt out in this file, and in no other.
+-- A chain with one field replaced, and one of its chips. antt has no record update, so the whole record is spelt out here, and besides in Start alone.
 use mathlib.Core.Bool.{Bool, false}
 use mathlib.Core.List.{List}
 use Prim.Native.Nat.{ℕ, _+_}

@@ -3,7 +3,6 @@ use mathlib.Core.Bool.{Bool, true, false, not, _&&_, _||_}
 use Prim.Native.Nat.{ℕ, zero, suc}
 use lib.Dec.{eqb}
 use Rattle.chip.specs.Status.{isArmed, gintActive, gintPin}
-use Rattle.chip.specs.declared.Chip.{Chip}
 use Rattle.chain.specs.Fields.{chipAt}
 use Rattle.chain.specs.declared.Chain.{Chain}
 use Rattle.chain.specs.declared.Response.{Response}
@@ -19,17 +18,17 @@ abbrev pub isResponding : Response → ℕ → Bool
 isResponding Idle i = false
 isResponding (UnderWay r) i = eqb (r .chip) i
 
--- EO of a chip at a level of its EI: low if EI is low, if M7 is clear, even when polled (D), or if the chip is responding; else high
-abbrev pub eoAt : Bool → Chip → Bool → Bool
-eoAt ei c responding = ei && isArmed c && not responding
+-- EO of chip i at a level of its EI: low if EI is low, if M7 is clear, even when polled (D), or if the chip is responding; else high
+abbrev pub eoAt : Bool → Chain → ℕ → Bool
+eoAt ei s i = ei && isArmed (chipAt s i) && not (isResponding (s .response) i)
 
 -- EI of chip 0 is the chain's; EI of another is EO of the chip before
 unfoldable pub ei : Chain → ℕ → Bool
 ei s zero = s .enable
-ei s (suc i) = eoAt (ei s i) (chipAt s i) (isResponding (s .response) i)
+ei s (suc i) = eoAt (ei s i) s i
 
 abbrev pub eo : Chain → ℕ → Bool
-eo s i = eoAt (ei s i) (chipAt s i) (isResponding (s .response) i)
+eo s i = eoAt (ei s i) s i
 
 -- GINT of chip i, whatever its EI is
 abbrev pub gint : Chain → ℕ → ℕ

@@ -4,7 +4,7 @@ use mathlib.Core.List.{List, [], _∷_}
 use Prim.Native.Nat.{ℕ, _+_}
 use lib.Dec.{eqb}
 use Rattle.bits.specs.Below.{digit, every}
-use Rattle.bits.specs.Byte.{pending}
+use Rattle.bits.specs.Byte.{isWaiting}
 use Rattle.chip.specs.Figure4.{isReset}
 use Rattle.chip.specs.Status.{isArmed, isPolled, isRotating, candidateOf}
 use Rattle.chip.specs.declared.Chip.{Chip}
@@ -23,7 +23,7 @@ use Rattle.chain.specs.declared.Response.the-variants.{Idle, UnderWay}
 
 -- a chip that is armed, in interrupt mode and in rotating priority, and a request on it that is latched and unmasked
 abbrev pub waits : Chip → ℕ → Bool
-waits c channel = isArmed c && not (isPolled c) && isRotating c && pending (c .irr) (c .imr) channel
+waits c channel = isArmed c && not (isPolled c) && isRotating c && isWaiting (c .irr) (c .imr) channel
 
 abbrev pub isFall : Event → Bool
 isFall (Command i code) = false

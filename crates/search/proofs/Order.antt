@@ -1,14 +1,14 @@
 -- Laws of a search along an order.
 -- Assumes nothing.
-use mathlib.Core.Path.{_≡_, ap, _∙_}
-use mathlib.Core.Bool.{Bool, _&&_}
+use mathlib.Core.Path.{_≡_}
+use mathlib.Core.Bool.{Bool}
 use Prim.Native.Nat.{ℕ, _-_, _<_}
 use native.Mathlib.Nat.{mod-lt}
 use lib.Bits.{bitAnd}
 use lib.Dec.{lit<}
-use Rattle.bits.specs.Byte.{bit, pending}
+use Rattle.bits.specs.Byte.{bit, isWaiting}
 use Rattle.bits.proofs.Below.{first-same}
-use Rattle.bits.proofs.Byte.{bit-and, bit-not}
+use Rattle.bits.proofs.Byte.{bit-waiting}
 use Rattle.search.specs.Order.{channelAt, firstIn}
 
 -- a place of an order has a channel of the chip
@@ -21,8 +21,7 @@ unfolding firstIn
 firstIn-same last f g e =
     first-same 8 (λ place. f (channelAt last place)) (λ place. g (channelAt last place)) (λ place h. e (channelAt last place) (channel-lt last place))
 
--- the requests that are set in IRR and clear in IMR are the bits of one byte
-pub firstIn-pending : (last irr imr : ℕ) → imr < 256 → firstIn last (bit (bitAnd irr (255 - imr))) ≡ firstIn last (pending irr imr)
-firstIn-pending last irr imr h =
-    firstIn-same last (bit (bitAnd irr (255 - imr))) (pending irr imr)
-    (λ k l. bit-and irr (255 - imr) k ∙ ap (λ (b : Bool). bit irr k && b) (bit-not imr k h l))
+-- the requests that are set in IRR and clear in IMR, searched as the bits of one byte
+pub firstIn-waiting : (last irr imr : ℕ) → imr < 256 → firstIn last (bit (bitAnd irr (255 - imr))) ≡ firstIn last (isWaiting irr imr)
+firstIn-waiting last irr imr h =
+    firstIn-same last (bit (bitAnd irr (255 - imr))) (isWaiting irr imr) (λ k l. bit-waiting irr imr k h l)

@@ -3,14 +3,14 @@ use mathlib.Core.Bool.{Bool, true, false, cond}
 use Prim.Native.Nat.{ℕ}
 use lib.Dec.{ltb}
 use Rattle.bits.specs.Byte.{bit}
-use Rattle.search.specs.Order.{lastOf, channelAt, firstPending, fence}
+use Rattle.search.specs.Order.{lastOf, channelAt, firstWaiting, fence}
 use Rattle.search.specs.declared.Candidate.{Candidate}
 use Rattle.search.specs.declared.Candidate.the-variants.{Channel, Nobody}
 
 -- the first channel in the order that is set in IRR and clear in IMR, if it stands strictly ahead of every ISR bit
 unfoldable pub candidateIn : ℕ → ℕ → ℕ → ℕ → Candidate
 candidateIn last irr imr isr =
-    cond (ltb (firstPending last irr imr) (fence last isr)) (Channel (channelAt last (firstPending last irr imr))) Nobody
+    cond (ltb (firstWaiting last irr imr) (fence last isr)) (Channel (channelAt last (firstWaiting last irr imr))) Nobody
 
 -- the candidate: by the order in force if M7 is set, otherwise there is none
 unfoldable pub candidate : ℕ → ℕ → ℕ → ℕ → ℕ → Candidate

@@ -3,7 +3,7 @@
 use mathlib.Core.Bool.{Bool, cond}
 use Prim.Native.Nat.{ℕ, _+_, _%_}
 use Rattle.bits.specs.Below.{first}
-use Rattle.bits.specs.Byte.{bit, pending}
+use Rattle.bits.specs.Byte.{bit, isWaiting}
 
 -- the channel that ends the order in force: M0 set is rotating order, which ends with the pointer; M0 clear is fixed order, which ends with 7
 abbrev pub lastOf : ℕ → ℕ → ℕ
@@ -18,8 +18,8 @@ unfoldable pub firstIn : ℕ → (ℕ → Bool) → ℕ
 firstIn last f = first 8 (λ place. f (channelAt last place))
 
 -- the place of the first channel that is set in IRR and clear in IMR
-abbrev pub firstPending : ℕ → ℕ → ℕ → ℕ
-firstPending last irr imr = firstIn last (pending irr imr)
+abbrev pub firstWaiting : ℕ → ℕ → ℕ → ℕ
+firstWaiting last irr imr = firstIn last (isWaiting irr imr)
 
 -- the fence: the place of the first ISR bit
 abbrev pub fence : ℕ → ℕ → ℕ

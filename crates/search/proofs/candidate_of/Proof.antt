@@ -9,7 +9,7 @@ use borrow.Author.Tests.{not-true, not-false, lt-ltb, le-ltb}
 use Rattle.search.specs.Candidate.{candidate, candidateIn}
 use Rattle.search.specs.Order.{channelAt}
 use Rattle.search.specs.declared.Candidate.the-variants.{Channel, Nobody}
-use Rattle.search.proofs.Order.{firstIn-pending}
+use Rattle.search.proofs.Order.{firstIn-waiting}
 use Rattle.search.proofs.candidate_of.Statement.{statement}
 use Rattle.search.proofs.candidate_of.Tie as tie
 
@@ -39,7 +39,7 @@ by-places : (c : tie.After-first-set2) →
 unfolding candidate candidateIn
 by-places c =
     simp (
-      ← firstIn-pending (c .before .before .last-of .result) (c .before .before .before .before .before .args .irr) (c .before .before .before .before .before .args .imr) (omega arith),
+      ← firstIn-waiting (c .before .before .last-of .result) (c .before .before .before .before .before .args .irr) (c .before .before .before .before .before .args .imr) (omega arith),
       ← c .before .before .before .before .is-set .ensures,
       not-false (c .before .before .before .before .is-set .result) (c .before .before .before .if1 .left),
       ← c .before .before .last-of .ensures,
