@@ -3,10 +3,7 @@
 use mathlib.Core.Bool.{Bool, true, false}
 use mathlib.Core.Path.{_≡_, refl, ap}
 use Prim.Native.Nat.{ℕ, _+_, _%_}
-use native.Mathlib.Omega.{arith}
-use Rattle.refusal.specs.Numbers.{refusalNumber}
-use Rattle.refusal.specs.declared.Refusal.{Refusal}
-use Rattle.refusal.specs.declared.Refusal.the-variants.{NotSound, NoSuchChip, NoSuchChannel, NoSuchLevel, PulseUnderWay, IackThereAlready, UndefinedCommand, NoDestination, PastItsCount, BrokenEvent, ShortResults, UnknownKind}
+use Rattle.refusal.proofs.Numbers.{not-zero}
 use Rattle.refusal.specs.declared.Verdict.{Verdict}
 use Rattle.refusal.specs.declared.Verdict.the-variants.{Accepted, Refused}
 use Rattle.chain.specs.Answers.{handed}
@@ -20,21 +17,6 @@ use Rattle.chain.specs.declared.Event.the-variants.{Command, Data, Statu
 use Rattle.chain.specs.declared.Reply.{Reply}
 use Rattle.chain.specs.declared.Response.{Response}
 use Rattle.chain.specs.declared.Response.the-variants.{Idle, UnderWay}
-
--- no refusal has the number 0
-pub not-zero : (why : Refusal) → refusalNumber why ≡ 0 → ⊥
-not-zero NotSound e = omega arith
-not-zero NoSuchChip e = omega arith
-not-zero NoSuchChannel e = omega arith
-not-zero NoSuchLevel e = omega arith
-not-zero PulseUnderWay e = omega arith
-not-zero IackThereAlready e = omega arith
-not-zero UndefinedCommand e = omega arith
-not-zero NoDestination e = omega arith
-not-zero PastItsCount e = omega arith
-not-zero BrokenEvent e = omega arith
-not-zero ShortResults e = omega arith
-not-zero UnknownKind e = omega arith
 
 first-kept : (response : Response) (s : Chain) → firstPulse response s .event ≡ s .event
 unfolding firstPulse withResponse withChip withChips

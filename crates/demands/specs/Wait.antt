@@ -6,10 +6,9 @@ use lib.Dec.{eqb}
 use Rattle.bits.specs.Below.{digit, every}
 use Rattle.bits.specs.Byte.{isWaiting}
 use Rattle.chip.specs.Figure4.{isReset}
-use Rattle.chip.specs.Status.{isArmed, isPolled, isRotating, candidateOf}
+use Rattle.chip.specs.Status.{isArmed, isPolled, isRotating, gintActive}
 use Rattle.chip.specs.declared.Chip.{Chip}
 use Rattle.refusal.specs.Numbers.{isAccepted}
-use Rattle.search.specs.Candidate.{exists}
 use Rattle.chain.specs.Events.{eventOf}
 use Rattle.chain.specs.Refusals.{verdictOf}
 use Rattle.chain.specs.Fields.{chipAt}
@@ -77,11 +76,11 @@ isWait i channel s (e ∷ es) =
     waits (chipAt s i) channel && not (resets i e s) && not (answersIt i channel e s) && isWait i channel (eventOf e s .chain) es
 
 -- a first pulse that falls now reaches chip i: no response is under way, the chain's Enable In is high, every earlier chip is armed, and no
--- earlier chip in interrupt mode has a request that it would answer
+-- earlier chip in interrupt mode has a request that it would answer: a candidate with M2 clear, which is what makes GINT active
 unfoldable pub reaches : ℕ → Chain → Bool
 reaches i s =
     isIdle (s .response) && s .enable && every i (λ j. isArmed (chipAt s j))
-    && every i (λ j. not (not (isPolled (chipAt s j)) && exists (candidateOf (chipAt s j))))
+    && every i (λ j. not (gintActive (chipAt s j)))
 
 -- a first pulse that reaches chip i with its in-service register empty
 unfoldable pub isCounted : ℕ → Event → Chain → Bool
