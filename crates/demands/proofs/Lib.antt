@@ -1,3 +1,4 @@
 pub mod Cases
+pub mod Corners
 pub mod Misread
 pub mod Worked

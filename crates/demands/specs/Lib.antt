@@ -1,5 +1,6 @@
 pub mod Bench
 pub mod Cases
+pub mod Corners
 pub mod Misread
 pub mod Wait
 pub mod Worked
