@@ -1,8 +1,8 @@
 -- Laws of the numbers below n that pass a test: what `every`, `howMany` and `first` say of each number.
 -- Assumes nothing.
-use mathlib.Core.Path.{_≡_, refl, ap, ap₂, sym, subst}
+use mathlib.Core.Path.{_≡_, refl, ap, ap₂, sym, subst, _∙_}
 use mathlib.Core.Logic.{⊎-elim}
-use mathlib.Core.Bool.{Bool, true, false, cond, _&&_, Bool·beq}
+use mathlib.Core.Bool.{Bool, true, false, not, cond, _&&_, Bool·beq}
 use Prim.Native.Nat.{ℕ, zero, suc, _+_, _<_, suc-le-suc}
 use native.Mathlib.Nat.{le-of-suc-le-suc, not-suc-le-zero, eq-or-lt-of-le, zero-lt-suc, le-refl, le-step}
 use lib.Dec.{T}
@@ -22,6 +22,38 @@ each zero f t k h = absurd (not-suc-le-zero h)
 each (suc n) f t k h =
     ⊎-elim (λ e. subst (λ (m : ℕ). T (f m)) (sym e) (right (every n f) (f n) t))
     (λ l. each n f (left (every n f) (f n) t) k l)
+    (eq-or-lt-of-le (le-of-suc-le-suc h))
+
+-- the two parts of an `and`
+pub both-left : (a b : Bool) → a && b ≡ true → a ≡ true
+both-left true b e = refl
+both-left false b e = e
+
+pub both-right : (a b : Bool) → a && b ≡ true → b ≡ true
+both-right true b e = e
+both-right false b e = absurd (subst (λ (x : Bool). T (not x)) e tt)
+
+and-false : (a : Bool) → a && false ≡ false
+and-false true = refl
+and-false false = refl
+
+-- all pass exactly if each does
+pub every-each : (n : ℕ) (f : ℕ → Bool) → every n f ≡ true → (k : ℕ) → k < n → f k ≡ true
+every-each zero f e k h = absurd (not-suc-le-zero h)
+every-each (suc n) f e k h =
+    ⊎-elim (λ m. ap f m ∙ both-right (every n f) (f n) e)
+    (λ l. every-each n f (both-left (every n f) (f n) e) k l)
+    (eq-or-lt-of-le (le-of-suc-le-suc h))
+
+pub every-all : (n : ℕ) (f : ℕ → Bool) → ((k : ℕ) → k < n → f k ≡ true) → every n f ≡ true
+every-all zero f e = refl
+every-all (suc n) f e = rw (every-all n f (λ k h. e k (le-step h))) (e n (le-refl (suc n)))
+
+pub every-not : (n : ℕ) (f : ℕ → Bool) (k : ℕ) → k < n → f k ≡ false → every n f ≡ false
+every-not zero f k h e = absurd (not-suc-le-zero h)
+every-not (suc n) f k h e =
+    ⊎-elim (λ m. ap (λ (b : Bool). every n f && b) (ap f (sym m) ∙ e) ∙ and-false (every n f))
+    (λ l. ap (λ (b : Bool). b && f n) (every-not n f k l e))
     (eq-or-lt-of-le (le-of-suc-le-suc h))
 
 same : (a b : Bool) → T (Bool·beq a b) → a ≡ b

@@ -1,3 +1,4 @@
 pub mod Figure4
 pub mod Rules
+pub mod Soundness
 pub mod Tried

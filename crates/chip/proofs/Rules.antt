@@ -1,4 +1,4 @@
--- One name for the rules of a chip: a proof that says `unfolding chipRules` computes with all of them.
+-- One name for the rules of a chip: a proof that says `unfolding chipRules` computes with all of them; and one for its fields alone.
 -- Assumes nothing.
 use Rattle.search.specs.Candidate.{candidate, candidateIn}
 use Rattle.search.specs.Clear.{clearHighest, clearFirst}
@@ -10,8 +10,13 @@ use Rattle.chip.specs.Fields.{withIrr, withIsr, withImr, withAcr, withMo
 use Rattle.chip.specs.Figure4.{figure4}
 use Rattle.chip.specs.Line.{lineSet}
 use Rattle.chip.specs.Reset.{reset, powerUp}
-use Rattle.chip.specs.Sound.{chipSound}
+use Rattle.chip.specs.Sound.{codesSound, chipSound}
+
+-- a chip with one field replaced, as a record
+unfoldable pub chipFields : Unit {0}
+unfolding withIrr withIsr withImr withAcr withMode withCommand withMemory withCounts withLines withPointer withDestination zeroChip
+chipFields = tt
 
 unfoldable pub chipRules : Unit {0}
-unfolding candidate candidateIn clearHighest clearFirst firstIn answered finished obey commanded written withIrr withIsr withImr withAcr withMode withCommand withMemory withCounts withLines withPointer withDestination zeroChip figure4 lineSet reset powerUp chipSound
+unfolding chipFields candidate candidateIn clearHighest clearFirst firstIn answered finished obey commanded written figure4 lineSet reset powerUp codesSound chipSound
 chipRules = tt

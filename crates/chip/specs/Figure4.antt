@@ -1,8 +1,11 @@
--- Figure 4 of the data sheet: the one table from a command's code to its row. Each test writes the row's fixed bits as the figure has them,
--- from bit 7 down; what is left of them are B2 B1 B0 (code % 8), M4 to M0 (code % 32), M6 M5 (code / 4 % 4), BY1 BY0 (code / 8 % 4), or X.
-use mathlib.Core.Bool.{Bool, true, false, cond}
+-- Figure 4 of the data sheet: the one table from a command's code to its row. A code is read by its high hexadecimal digit; where a group has a
+-- row for all channels and one for a single channel, bit 3 tells them apart, and B2 B1 B0 is code % 8. The other fields are M4 to M0
+-- (code % 32), M6 M5 (code / 4 % 4), and BY1 BY0 with L2 L1 L0 (code / 8 % 4 and code % 8).
+use mathlib.Core.Bool.{Bool, true, false, cond, _||_}
 use Prim.Native.Nat.{ℕ, _/_, _%_}
 use lib.Dec.{eqb}
+use Rattle.bits.specs.Byte.{bit}
+use Rattle.chip.specs.declared.Command.{Command}
 use Rattle.chip.specs.declared.Command.the-variants.{Reset, ClearIrrAndImr, ClearIrrAndImrBit, ClearImr, ClearImrBit, SetImr, SetImrBit, ClearIrr, ClearIrrBit, SetIrr, SetIrrBit, ClearHighestIsr, ClearIsr, ClearIsrBit, LoadMode, LoadRead, LoadReadAndArm, LoadReadAndDisarm, PreselectImr, PreselectAcr, PreselectLevel}
 use Rattle.chip.specs.declared.Meaning.{Meaning}
 use Rattle.chip.specs.declared.Meaning.the-variants.{Row, Undefined}
@@ -19,28 +22,30 @@ loadRead m low =
     (cond (eqb low 0b10) (Row (LoadReadAndDisarm m))
     Undefined))
 
+-- bit 3 clear: all channels; set: the one that B2 B1 B0 names
+abbrev pub allOrOne : ℕ → Command → Command → Meaning
+allOrOne code all one = cond (bit code 3) (Row one) (Row all)
+
+-- the row of a code whose high digit is given
+abbrev pub rowIn : ℕ → ℕ → Meaning
+rowIn high code =
+    cond (eqb high 0x0) (cond (isReset code) (Row Reset) Undefined)
+    (cond (eqb high 0x1) (allOrOne code ClearIrrAndImr (ClearIrrAndImrBit (code % 8)))
+    (cond (eqb high 0x2) (allOrOne code ClearImr (ClearImrBit (code % 8)))
+    (cond (eqb high 0x3) (allOrOne code SetImr (SetImrBit (code % 8)))
+    (cond (eqb high 0x4) (allOrOne code ClearIrr (ClearIrrBit (code % 8)))
+    (cond (eqb high 0x5) (allOrOne code SetIrr (SetIrrBit (code % 8)))
+    (cond (eqb high 0x6) (Row ClearHighestIsr)
+    (cond (eqb high 0x7) (allOrOne code ClearIsr (ClearIsrBit (code % 8)))
+    (cond (eqb high 0x8 || eqb high 0x9) (Row (LoadMode (code % 32)))
+    (cond (eqb high 0xA) (loadRead (code / 4 % 4) (code % 4))
+    (cond (eqb high 0xB) (Row PreselectImr)
+    (cond (eqb high 0xC) (Row PreselectAcr)
+    (cond (eqb high 0xD) Undefined
+    (Row (PreselectLevel (code / 8 % 4) (code % 8)))))))))))))))
+
 unfoldable pub figure4 : ℕ → Meaning
-figure4 code =
-    cond (isReset code) (Row Reset)
-    (cond (eqb (code / 8) 0b00010) (Row ClearIrrAndImr)
-    (cond (eqb (code / 8) 0b00011) (Row (ClearIrrAndImrBit (code % 8)))
-    (cond (eqb (code / 8) 0b00100) (Row ClearImr)
-    (cond (eqb (code / 8) 0b00101) (Row (ClearImrBit (code % 8)))
-    (cond (eqb (code / 8) 0b00110) (Row SetImr)
-    (cond (eqb (code / 8) 0b00111) (Row (SetImrBit (code % 8)))
-    (cond (eqb (code / 8) 0b01000) (Row ClearIrr)
-    (cond (eqb (code / 8) 0b01001) (Row (ClearIrrBit (code % 8)))
-    (cond (eqb (code / 8) 0b01010) (Row SetIrr)
-    (cond (eqb (code / 8) 0b01011) (Row (SetIrrBit (code % 8)))
-    (cond (eqb (code / 16) 0b0110) (Row ClearHighestIsr)
-    (cond (eqb (code / 8) 0b01110) (Row ClearIsr)
-    (cond (eqb (code / 8) 0b01111) (Row (ClearIsrBit (code % 8)))
-    (cond (eqb (code / 32) 0b100) (Row (LoadMode (code % 32)))
-    (cond (eqb (code / 16) 0b1010) (loadRead (code / 4 % 4) (code % 4))
-    (cond (eqb (code / 16) 0b1011) (Row PreselectImr)
-    (cond (eqb (code / 16) 0b1100) (Row PreselectAcr)
-    (cond (eqb (code / 32) 0b111) (Row (PreselectLevel (code / 8 % 4) (code % 8)))
-    Undefined))))))))))))))))))
+figure4 code = rowIn (code / 16) code
 
 -- the code is in no row of the figure
 abbrev pub undefined : Meaning → Bool

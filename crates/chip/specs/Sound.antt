@@ -1,5 +1,7 @@
 -- When a chip's record is sound (document 01, "A chip").
 use mathlib.Core.Bool.{Bool, true, _&&_}
+use mathlib.Core.List.{List}
+use Prim.Native.Nat.{ℕ}
 use lib.Dec.{leb}
 use lib.ListN.{getD}
 use Rattle.bits.specs.Below.{every}
@@ -14,6 +16,10 @@ destinationSound Imr = true
 destinationSound Acr = true
 destinationSound (Level level place) = leb level 7 && leb place 4
 
+-- each of the eight codes at most 3
+unfoldable pub codesSound : List ℕ → Bool
+codesSound counts = every 8 (λ level. leb (getD counts level 0) 3)
+
 -- codes at most 3, pointer at most 7, and the destination
 unfoldable pub chipSound : Chip → Bool
-chipSound c = every 8 (λ level. leb (getD (c .counts) level 0) 3) && leb (c .pointer) 7 && destinationSound (c .destination)
+chipSound c = codesSound (c .counts) && leb (c .pointer) 7 && destinationSound (c .destination)

@@ -3,7 +3,7 @@
 ghost use mathlib.Core.Path.{_≡_};
 ghost use Rattle.bits.specs.Byte.{bit};
 ghost use Rattle.search.specs.Order.{lastOf, channelAt, firstIn};
-ghost use Rattle.search.specs.Candidate.{candidate, candidateNumber};
+ghost use Rattle.search.specs.Candidate.{candidate, exists, channelOf, candidateNumber};
 ghost use Rattle.search.specs.Clear.{clearHighest};
 
 // What a search for a candidate finds.
@@ -68,6 +68,26 @@ pub fn clear_highest(isr: u8, mode: u8, pointer: u8) -> u8
 }
 
 impl Candidate {
+    // Whether there is one.
+    pub fn exists(self) -> bool
+        ensures { λ r. ⌜ r ≡ exists self ⌝ }
+    {
+        match self {
+            Candidate::Channel(_) => true,
+            Candidate::Nobody => false,
+        }
+    }
+
+    // The channel, 0 if none.
+    pub fn channel(self) -> u8
+        ensures { λ r. ⌜ r ≡ channelOf self ⌝ }
+    {
+        match self {
+            Candidate::Channel(k) => k,
+            Candidate::Nobody => 0,
+        }
+    }
+
     // The channel, or 255 for no candidate.
     pub fn number(self) -> u8
         ensures { λ r. ⌜ r ≡ candidateNumber self ⌝ }

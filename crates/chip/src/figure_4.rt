@@ -1,0 +1,73 @@
+// Figure 4 of the data sheet: what a command code means.
+ghost use mathlib.Core.Bool.{cond};
+ghost use mathlib.Core.Path.{_≡_};
+ghost use Rattle.chip.specs.Figure4.{figure4, isReset, allOrOne, loadRead};
+ghost use Rattle.chip.specs.declared.Command.the-variants.{Reset};
+ghost use Rattle.chip.specs.declared.Meaning.the-variants.{Row, Undefined};
+use crate::Command;
+use crate::Meaning;
+
+impl Meaning {
+    // The row of a code, by its high hexadecimal digit.
+    pub fn of(code: u8) -> Meaning
+        ensures { λ r. ⌜ r ≡ figure4 code ⌝ }
+    {
+        let high = code / 16;
+        let k = code % 8;
+        match high {
+            0x0 => Meaning::reset_or_undefined(code),
+            0x1 => Meaning::all_or_one(
+                code,
+                Command::ClearIrrAndImr,
+                Command::ClearIrrAndImrBit(k),
+            ),
+            0x2 => Meaning::all_or_one(code, Command::ClearImr, Command::ClearImrBit(k)),
+            0x3 => Meaning::all_or_one(code, Command::SetImr, Command::SetImrBit(k)),
+            0x4 => Meaning::all_or_one(code, Command::ClearIrr, Command::ClearIrrBit(k)),
+            0x5 => Meaning::all_or_one(code, Command::SetIrr, Command::SetIrrBit(k)),
+            0x6 => Meaning::Row(Command::ClearHighestIsr),
+            0x7 => Meaning::all_or_one(code, Command::ClearIsr, Command::ClearIsrBit(k)),
+            0x8 => Meaning::Row(Command::LoadMode(code % 32)),
+            0x9 => Meaning::Row(Command::LoadMode(code % 32)),
+            0xA => Meaning::load_read(code / 4 % 4, code % 4),
+            0xB => Meaning::Row(Command::PreselectImr),
+            0xC => Meaning::Row(Command::PreselectAcr),
+            0xD => Meaning::Undefined,
+            _ => Meaning::Row(Command::PreselectLevel(code / 8 % 4, k)),
+        }
+    }
+
+    // 00 is the reset; 01 to 0F are undefined.
+    fn reset_or_undefined(code: u8) -> Meaning
+        ensures { λ r. ⌜ r ≡ cond (isReset code) (Row Reset) Undefined ⌝ }
+    {
+        if code == 0 {
+            Meaning::Row(Command::Reset)
+        } else {
+            Meaning::Undefined
+        }
+    }
+
+    // Bit 3 clear: all channels; set: the one that B2 B1 B0 names.
+    fn all_or_one(code: u8, all: Command, one: Command) -> Meaning
+        ensures { λ r. ⌜ r ≡ allOrOne code all one ⌝ }
+    {
+        if bits::is_set(code, 3) {
+            Meaning::Row(one)
+        } else {
+            Meaning::Row(all)
+        }
+    }
+
+    // 1010 M6 M5 and then 00, 01, 10; 11 is undefined.
+    fn load_read(m: u8, low: u8) -> Meaning
+        ensures { λ r. ⌜ r ≡ loadRead m low ⌝ }
+    {
+        match low {
+            0 => Meaning::Row(Command::LoadRead(m)),
+            1 => Meaning::Row(Command::LoadReadAndArm(m)),
+            2 => Meaning::Row(Command::LoadReadAndDisarm(m)),
+            _ => Meaning::Undefined,
+        }
+    }
+}
