@@ -1,3 +1,5 @@
 pub mod Number
+pub mod Passed
 pub mod Rules
+pub mod Soundness
 pub mod Tried

@@ -7,7 +7,7 @@ use Rattle.refusal.proofs.Numbers.{not-zero}
 use Rattle.refusal.specs.declared.Verdict.{Verdict}
 use Rattle.refusal.specs.declared.Verdict.the-variants.{Accepted, Refused}
 use Rattle.chain.specs.Answers.{handed}
-use Rattle.chain.specs.Events.{changed, counted, judged, eventOf}
+use Rattle.chain.specs.Events.{changed, counted, accepted, refused, judged, eventOf}
 use Rattle.chain.specs.Refusals.{verdictOf}
 use Rattle.chain.specs.Fields.{withChips, withChip, withEnable, withIack, withResponse, withEvent}
 use Rattle.chain.specs.Pulse.{selected, firstPulse, fallen, risen, risenAfter}
@@ -51,7 +51,7 @@ number-kept Fall s = fall-kept (s .response) s
 number-kept Rise s = rise-kept (s .response) s
 
 judged-counts : (v : Verdict) (e : Event) (s : Chain) → handed (judged v e s .answer) .number ≡ 0 → judged v e s .chain .event ≡ (s .event + 1) % 65536
-unfolding judged counted withEvent
+unfolding judged accepted refused counted withEvent
 judged-counts (Refused why) e s zero = absurd (not-zero why zero)
 judged-counts Accepted e s zero = ap (λ (n : ℕ). (n + 1) % 65536) (number-kept e s)
 

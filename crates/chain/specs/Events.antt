@@ -7,6 +7,7 @@ use Rattle.chip.specs.Data.{dataRead, written}
 use Rattle.chip.specs.Figure4.{figure4, isReset}
 use Rattle.chip.specs.Line.{lineSet}
 use Rattle.chip.specs.Status.{statusByte}
+use Rattle.refusal.specs.declared.Refusal.{Refusal}
 use Rattle.refusal.specs.declared.Verdict.{Verdict}
 use Rattle.refusal.specs.declared.Verdict.the-variants.{Accepted}
 use Rattle.chain.specs.Fields.{chipAt, withChip, withEnable, withIack, withEvent, withResponse}
@@ -53,10 +54,17 @@ changed Rise s = withIack true (risen (s .response) s)
 unfoldable pub counted : Chain → Chain
 counted s = withEvent ((s .event + 1) % 65536) s
 
--- an event: refused events hand back the chain as given
+-- what an accepted event hands back
+unfoldable pub accepted : Answer → Chain → Outcome
+accepted answer s = record { answer = answer; chain = counted s }
+
+-- refused events hand back the chain as given
+unfoldable pub refused : Refusal → Chain → Outcome
+refused why s = record { answer = Answer.Refused why; chain = s }
+
 unfoldable pub judged : Verdict → Event → Chain → Outcome
-judged (Verdict.Refused why) e s = record { answer = Answer.Refused why; chain = s }
-judged Accepted e s = record { answer = answerOf e s; chain = counted (changed e s) }
+judged (Verdict.Refused why) e s = refused why s
+judged Accepted e s = accepted (answerOf e s) (changed e s)
 
 unfoldable pub eventOf : Event → Chain → Outcome
 eventOf e s = judged (verdictOf e s) e s

@@ -54,17 +54,17 @@ noDestination i s = (hasNoDestination (chipAt s i .destination), NoDestination)
 abbrev pub pastItsCount : ℕ → Chain → Bool × Refusal
 pastItsCount i s = (isPastItsCount (chipAt s i .counts) (chipAt s i .destination), PastItsCount)
 
--- the tests that an event has to pass, in the paper's order
+-- the tests that an event on a sound chain has to pass, in the paper's order
 abbrev pub checks : Event → Chain → List (Bool × Refusal)
-checks (Command i code) s = notSound s ∷ noSuchChip i s ∷ pulseUnderWay s ∷ undefinedCommand code ∷ []
-checks (Data i byte) s = notSound s ∷ noSuchChip i s ∷ pulseUnderWay s ∷ noDestination i s ∷ pastItsCount i s ∷ []
-checks (Status i) s = notSound s ∷ noSuchChip i s ∷ pulseUnderWay s ∷ []
-checks (Read i) s = notSound s ∷ noSuchChip i s ∷ pulseUnderWay s ∷ []
-checks (Line i channel level) s = notSound s ∷ noSuchChip i s ∷ noSuchChannel channel ∷ noSuchLevel level ∷ []
-checks (Enable level) s = notSound s ∷ noSuchLevel level ∷ []
-checks Fall s = notSound s ∷ iackLow s ∷ []
-checks Rise s = notSound s ∷ iackHigh s ∷ []
+checks (Command i code) s = noSuchChip i s ∷ pulseUnderWay s ∷ undefinedCommand code ∷ []
+checks (Data i byte) s = noSuchChip i s ∷ pulseUnderWay s ∷ noDestination i s ∷ pastItsCount i s ∷ []
+checks (Status i) s = noSuchChip i s ∷ pulseUnderWay s ∷ []
+checks (Read i) s = noSuchChip i s ∷ pulseUnderWay s ∷ []
+checks (Line i channel level) s = noSuchChip i s ∷ noSuchChannel channel ∷ noSuchLevel level ∷ []
+checks (Enable level) s = noSuchLevel level ∷ []
+checks Fall s = iackLow s ∷ []
+checks Rise s = iackHigh s ∷ []
 
--- the first that applies, or accepted
+-- the first that applies, or accepted; refusal 1 comes before all others
 unfoldable pub verdictOf : Event → Chain → Verdict
-verdictOf e s = firstOf (checks e s)
+verdictOf e s = firstOf (notSound s ∷ checks e s)

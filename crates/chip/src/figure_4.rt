@@ -1,7 +1,7 @@
 // Figure 4 of the data sheet: what a command code means.
 ghost use mathlib.Core.Bool.{cond};
 ghost use mathlib.Core.Path.{_≡_};
-ghost use Rattle.chip.specs.Figure4.{figure4, isReset, allOrOne, loadRead};
+ghost use Rattle.chip.specs.Figure4.{figure4, isReset, allOrOne, loadRead, undefined};
 ghost use Rattle.chip.specs.declared.Command.the-variants.{Reset};
 ghost use Rattle.chip.specs.declared.Meaning.the-variants.{Row, Undefined};
 use crate::Command;
@@ -68,6 +68,16 @@ impl Meaning {
             1 => Meaning::Row(Command::LoadReadAndArm(m)),
             2 => Meaning::Row(Command::LoadReadAndDisarm(m)),
             _ => Meaning::Undefined,
+        }
+    }
+
+    // Whether the code is in no row of the figure.
+    pub fn is_undefined(self) -> bool
+        ensures { λ r. ⌜ r ≡ undefined self ⌝ }
+    {
+        match self {
+            Meaning::Row(_) => false,
+            Meaning::Undefined => true,
         }
     }
 }

@@ -1,7 +1,7 @@
 // The numbers handed back: why a call is refused, and the number of each reason.
 // A failure has a name here; document 01's table of numbers stands in specs/ and every promise goes through it.
 ghost use mathlib.Core.Path.{_≡_};
-ghost use Rattle.refusal.specs.Numbers.{refusalNumber, verdictNumber};
+ghost use Rattle.refusal.specs.Numbers.{refusalNumber, verdictNumber, isAccepted};
 
 // The reasons, in the table's order.
 pub enum Refusal {
@@ -55,6 +55,16 @@ impl Verdict {
         match self {
             Verdict::Accepted => 0,
             Verdict::Refused(why) => why.number(),
+        }
+    }
+
+    // Whether nothing was refused.
+    pub fn is_accepted(self) -> bool
+        ensures { λ r. ⌜ r ≡ isAccepted self ⌝ }
+    {
+        match self {
+            Verdict::Accepted => true,
+            Verdict::Refused(_) => false,
         }
     }
 }
