@@ -1,2 +1,3 @@
 pub mod Below
 pub mod Byte
+pub mod Stored

@@ -1,3 +1,4 @@
+pub mod Kept
 pub mod Number
 pub mod Passed
 pub mod Rules

@@ -1,13 +1,14 @@
--- What Figure 4 says of all 256 codes, by computation: which are in no row, and how wide the numbers of a row are.
+-- Which codes are in no row of Figure 4, computed over all 256, and how wide the numbers of a row are.
 -- Assumes nothing.
-use mathlib.Core.Bool.{Bool, true, _&&_, _||_}
-use mathlib.Core.Path.{_≡_, ap, sym, _∙_}
+use mathlib.Core.Bool.{Bool, true, false, cond, _&&_, _||_}
+use mathlib.Core.Path.{_≡_, refl, ap, sym, _∙_}
 use Prim.Native.Nat.{ℕ, _/_, _%_, _<_}
-use native.Mathlib.Nat.{mod-eq-of-lt}
-use lib.Dec.{eqb, leb, ltb}
-use borrow.Author.Tests.{ltb-true}
+use native.Mathlib.Nat.{mod-lt, mod-eq-of-lt}
+use lib.Dec.{eqb, leb, ltb, lit<}
+use borrow.Author.Tests.{lt-ltb, ltb-true}
 use Rattle.bits.proofs.Below.{both-left, both-right, tested}
-use Rattle.chip.specs.Figure4.{figure4, undefined}
+use Rattle.bits.specs.Byte.{bit}
+use Rattle.chip.specs.Figure4.{isReset, loadRead, allOrOne, rowIn, figure4, undefined}
 use Rattle.chip.specs.declared.Command.{Command}
 use Rattle.chip.specs.declared.Command.the-variants.{Reset, ClearIrrAndImr, ClearIrrAndImrBit, ClearImr, ClearImrBit, SetImr, SetImrBit, ClearIrr, ClearIrrBit, SetIrr, SetIrrBit, ClearHighestIsr, ClearIsr, ClearIsrBit, LoadMode, LoadRead, LoadReadAndArm, LoadReadAndDisarm, PreselectImr, PreselectAcr, PreselectLevel}
 use Rattle.chip.specs.declared.Meaning.{Meaning}
@@ -49,19 +50,56 @@ abbrev fits : Meaning → Bool
 fits (Row row) = rowFits row
 fits Undefined = true
 
-pub row-fits : (code : ℕ) (row : Command) → code < 256 → figure4 code ≡ Row row → rowFits row ≡ true
+fits-either : (b : Bool) (x y : Meaning) → fits x ≡ true → fits y ≡ true → fits (cond b x y) ≡ true
+fits-either true x y ex ey = ex
+fits-either false x y ex ey = ey
+
+below : (n width : ℕ) → 0 < width → ltb (n % width) width ≡ true
+below n width h = lt-ltb (n % width) width (mod-lt n h)
+
+-- one channel of eight
+one : (code : ℕ) → ltb (code % 8) 8 ≡ true
+one code = below code 8 (lit< tt)
+
+all-or-one : (code : ℕ) (all one : Command) → rowFits all ≡ true → rowFits one ≡ true → fits (allOrOne code all one) ≡ true
+all-or-one code all one ea eo = fits-either (bit code 3) (Row one) (Row all) eo ea
+
+load-read : (m low : ℕ) → ltb m 4 ≡ true → fits (loadRead m low) ≡ true
+load-read m low e = fits-either (eqb low 0b00) _ _ e (fits-either (eqb low 0b01) _ _ e (fits-either (eqb low 0b10) _ _ e refl))
+
+level-row : (code : ℕ) → rowFits (PreselectLevel (code / 8 % 4) (code % 8)) ≡ true
+level-row code = simp (below (code / 8) 4 (lit< tt), one code)
+
+in-figure : (high code : ℕ) → fits (rowIn high code) ≡ true
+in-figure high code =
+    fits-either (eqb high 0x0) _ _ (fits-either (isReset code) _ _ refl refl)
+    (fits-either (eqb high 0x1) _ _ (all-or-one code ClearIrrAndImr (ClearIrrAndImrBit (code % 8)) refl (one code))
+    (fits-either (eqb high 0x2) _ _ (all-or-one code ClearImr (ClearImrBit (code % 8)) refl (one code))
+    (fits-either (eqb high 0x3) _ _ (all-or-one code SetImr (SetImrBit (code % 8)) refl (one code))
+    (fits-either (eqb high 0x4) _ _ (all-or-one code ClearIrr (ClearIrrBit (code % 8)) refl (one code))
+    (fits-either (eqb high 0x5) _ _ (all-or-one code SetIrr (SetIrrBit (code % 8)) refl (one code))
+    (fits-either (eqb high 0x6) _ _ refl
+    (fits-either (eqb high 0x7) _ _ (all-or-one code ClearIsr (ClearIsrBit (code % 8)) refl (one code))
+    (fits-either (eqb high 0x8 || eqb high 0x9) _ _ (below code 32 (lit< tt))
+    (fits-either (eqb high 0xA) _ _ (load-read (code / 4 % 4) (code % 4) (below (code / 4) 4 (lit< tt)))
+    (fits-either (eqb high 0xB) _ _ refl
+    (fits-either (eqb high 0xC) _ _ refl
+    (fits-either (eqb high 0xD) _ _ refl
+    (level-row code)))))))))))))
+
+pub row-fits : (code : ℕ) (row : Command) → figure4 code ≡ Row row → rowFits row ≡ true
 unfolding figure4
-row-fits code row h e = ap fits (sym e) ∙ tested 256 (λ code. fits (figure4 code)) (λ code. true) tt code h
+row-fits code row e = ap fits (sym e) ∙ in-figure (code / 16) code
 
 -- so a remainder by the width of a row's one number leaves it as it is
 pub row-narrow : (kind : ℕ → Command) (width : ℕ) → ((m : ℕ) → rowFits (kind m) ≡ ltb m width)
-    → (code m : ℕ) (row : Command) → code < 256 → figure4 code ≡ Row row → row ≡ kind m → m % width ≡ m
-row-narrow kind width wide code m row h e is =
-    mod-eq-of-lt (ltb-true m width (sym (wide m) ∙ ap rowFits (sym is) ∙ row-fits code row h e))
+    → (code m : ℕ) (row : Command) → figure4 code ≡ Row row → row ≡ kind m → m % width ≡ m
+row-narrow kind width wide code m row e is =
+    mod-eq-of-lt (ltb-true m width (sym (wide m) ∙ ap rowFits (sym is) ∙ row-fits code row e))
 
 -- a preselected level is below 8, its count code below 4
-pub preselected : (code count level : ℕ) (row : Command) → code < 256 → figure4 code ≡ Row row → row ≡ PreselectLevel count level
+pub preselected : (code count level : ℕ) (row : Command) → figure4 code ≡ Row row → row ≡ PreselectLevel count level
     → (count < 4) × (level < 8)
-preselected code count level row h e is =
-    let fit : ltb count 4 && ltb level 8 ≡ true = ap rowFits (sym is) ∙ row-fits code row h e in
+preselected code count level row e is =
+    let fit : ltb count 4 && ltb level 8 ≡ true = ap rowFits (sym is) ∙ row-fits code row e in
     (ltb-true count 4 (both-left _ (ltb level 8) fit), ltb-true level 8 (both-right (ltb count 4) _ fit))

@@ -1,4 +1,5 @@
 pub mod Figure4
+pub mod Kept
 pub mod Rules
 pub mod Soundness
 pub mod Tried

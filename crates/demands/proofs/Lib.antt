@@ -1,4 +1,5 @@
 pub mod Cases
 pub mod Corners
+pub mod Kept
 pub mod Misread
 pub mod Worked

@@ -2,7 +2,6 @@
 -- Assumes nothing.
 use borrow.Author.Needs.{needs}
 use mathlib.Core.Path.{refl}
-use native.Mathlib.Omega.{arith}
 use Rattle.chip.specs.Command.{commanded, obey}
 use Rattle.chip.specs.declared.Command.the-variants.{LoadMode, LoadRead, LoadReadAndArm, LoadReadAndDisarm}
 use Rattle.chip.proofs.Figure4.{row-narrow, preselected}
@@ -155,7 +154,7 @@ enum-known-row-11 : tie.Need-enum-known-row-11
 enum-known-row-11 c = search needs
 
 preselect-requires : tie.Need-preselect-requires
-preselect-requires c κs = preselected (c .before .before .before .before .args .code) _ _ _ (omega arith) (c .before .before .before .before .pre) (c .before .row11 .given .1) .1
+preselect-requires c κs = preselected (c .before .before .before .before .args .code) _ _ _ (c .before .before .before .before .pre) (c .before .row11 .given .1) .1
 
 returns-4 : tie.Need-returns-4
 unfolding chipFields commanded obey
@@ -215,19 +214,19 @@ returns-17 c = simp (c .before .before .before .before .with-destination .ensure
 
 returns-18 : tie.Need-returns-18
 unfolding chipFields commanded obey
-returns-18 c = simp (c .before .before .before .before .with-destination .ensures, c .before .before .row7 .given .1, row-narrow LoadMode 32 (λ m. refl) (c .before .before .before .before .before .args .code) _ _ (omega arith) (c .before .before .before .before .before .pre) (c .before .before .row7 .given .1))
+returns-18 c = simp (c .before .before .before .before .with-destination .ensures, c .before .before .row7 .given .1, row-narrow LoadMode 32 (λ m. refl) (c .before .before .before .before .before .args .code) _ _ (c .before .before .before .before .before .pre) (c .before .before .row7 .given .1))
 
 returns-19 : tie.Need-returns-19
 unfolding chipFields commanded obey
-returns-19 c = simp (c .before .before .before .before .before .with-destination .ensures, c .before .before .before .row8 .given .1, row-narrow LoadRead 4 (λ m. refl) (c .before .before .before .before .before .before .args .code) _ _ (omega arith) (c .before .before .before .before .before .before .pre) (c .before .before .before .row8 .given .1))
+returns-19 c = simp (c .before .before .before .before .before .with-destination .ensures, c .before .before .before .row8 .given .1, row-narrow LoadRead 4 (λ m. refl) (c .before .before .before .before .before .before .args .code) _ _ (c .before .before .before .before .before .before .pre) (c .before .before .before .row8 .given .1))
 
 returns-20 : tie.Need-returns-20
 unfolding chipFields commanded obey
-returns-20 c = simp (c .before .before .before .before .with-destination .ensures, c .before .before .row9 .given .1, row-narrow LoadReadAndArm 4 (λ m. refl) (c .before .before .before .before .before .args .code) _ _ (omega arith) (c .before .before .before .before .before .pre) (c .before .before .row9 .given .1))
+returns-20 c = simp (c .before .before .before .before .with-destination .ensures, c .before .before .row9 .given .1, row-narrow LoadReadAndArm 4 (λ m. refl) (c .before .before .before .before .before .args .code) _ _ (c .before .before .before .before .before .pre) (c .before .before .row9 .given .1))
 
 returns-21 : tie.Need-returns-21
 unfolding chipFields commanded obey
-returns-21 c = simp (c .before .before .before .before .with-destination .ensures, c .before .before .row10 .given .1, row-narrow LoadReadAndDisarm 4 (λ m. refl) (c .before .before .before .before .before .args .code) _ _ (omega arith) (c .before .before .before .before .before .pre) (c .before .before .row10 .given .1))
+returns-21 c = simp (c .before .before .before .before .with-destination .ensures, c .before .before .row10 .given .1, row-narrow LoadReadAndDisarm 4 (λ m. refl) (c .before .before .before .before .before .args .code) _ _ (c .before .before .before .before .before .pre) (c .before .before .row10 .given .1))
 
 pub command-spec : {M : Type 1} → statement M
 command-spec =
