@@ -2,7 +2,7 @@
 -- Assumes nothing.
 use mathlib.Core.Path.{_≡_, refl, ap, ap₂, sym, subst, _∙_}
 use mathlib.Core.Logic.{⊎-elim}
-use mathlib.Core.Bool.{Bool, true, false, not, cond, _&&_, Bool·beq}
+use mathlib.Core.Bool.{Bool, true, false, cond, _&&_, Bool·beq}
 use Prim.Native.Nat.{ℕ, zero, suc, _+_, _<_, suc-le-suc}
 use native.Mathlib.Nat.{le-of-suc-le-suc, not-suc-le-zero, eq-or-lt-of-le, zero-lt-suc, le-refl, le-step}
 use lib.Dec.{T}
@@ -31,11 +31,11 @@ both-left false b e = e
 
 pub both-right : (a b : Bool) → a && b ≡ true → b ≡ true
 both-right true b e = e
-both-right false b e = absurd (subst (λ (x : Bool). T (not x)) e tt)
+both-right false b e = absurd (subst T (sym e) tt)
 
-and-false : (a : Bool) → a && false ≡ false
-and-false true = refl
-and-false false = refl
+pub both-not : (a b : Bool) → b ≡ false → a && b ≡ false
+both-not true b e = e
+both-not false b e = refl
 
 -- all pass exactly if each does
 pub every-each : (n : ℕ) (f : ℕ → Bool) → every n f ≡ true → (k : ℕ) → k < n → f k ≡ true
@@ -52,7 +52,7 @@ every-all (suc n) f e = rw (every-all n f (λ k h. e k (le-step h))) (e n (le-re
 pub every-not : (n : ℕ) (f : ℕ → Bool) (k : ℕ) → k < n → f k ≡ false → every n f ≡ false
 every-not zero f k h e = absurd (not-suc-le-zero h)
 every-not (suc n) f k h e =
-    ⊎-elim (λ m. ap (λ (b : Bool). every n f && b) (ap f (sym m) ∙ e) ∙ and-false (every n f))
+    ⊎-elim (λ m. both-not (every n f) (f n) (ap f (sym m) ∙ e))
     (λ l. ap (λ (b : Bool). b && f n) (every-not n f k l e))
     (eq-or-lt-of-le (le-of-suc-le-suc h))
 

@@ -2,23 +2,23 @@
 -- Assumes nothing.
 use mathlib.Core.Bool.{Bool, true, false, cond, _&&_}
 use mathlib.Core.Logic.{⊎-elim}
-use mathlib.Core.Path.{_≡_, refl, ap, sym, subst, _∙_}
+use mathlib.Core.Path.{_≡_, refl, ap, sym, _∙_}
 use Prim.Native.Nat.{ℕ, _+_, _≤_, _<_}
 use native.Mathlib.Omega.{arith}
 use native.Mathlib.Nat.{lt-of-lt-of-le}
-use lib.Dec.{eqb, leb, ltb}
+use lib.Dec.{eqb, leb}
 use lib.ListN.{getD, replicate, getD-replicate}
-use borrow.Author.Tests.{ltb-true, leb-true, lt-ltb, le-leb, eqb-false}
+use borrow.Author.Tests.{leb-true, lt-ltb, le-leb, eqb-false}
 use Rattle.bits.proofs.Below.{both-left, both-right, every-all}
 use Rattle.bits.proofs.Stored.{stored}
 use Rattle.refusal.proofs.Numbers.{not-zero}
 use Rattle.refusal.specs.declared.Refusal.the-variants.{NotSound}
 use Rattle.refusal.specs.declared.Verdict.{Verdict}
 use Rattle.refusal.specs.declared.Verdict.the-variants.{Accepted, Refused}
-use Rattle.chip.proofs.Figure4.{rowFits, row-fits}
+use Rattle.chip.proofs.Figure4.{row-fits}
 use Rattle.chip.proofs.Kept.{commanded-kept, written-kept, line-kept, answered-kept, finished-kept, power-up-sound}
 use Rattle.chip.specs.Command.{commanded}
-use Rattle.chip.specs.Figure4.{figure4, isReset, undefined}
+use Rattle.chip.specs.Figure4.{figure4, isReset}
 use Rattle.chip.specs.Fields.{noChip}
 use Rattle.chip.specs.Reset.{powerUp}
 use Rattle.chip.specs.Sound.{chipSound}
@@ -42,9 +42,9 @@ use Rattle.chain.specs.declared.Outcome.{Outcome}
 use Rattle.chain.specs.declared.Reply.{Reply}
 use Rattle.chain.specs.declared.Response.{Response}
 use Rattle.chain.specs.declared.Response.the-variants.{Idle, UnderWay}
-use Rattle.chain.proofs.Passed.{passed-sound, passed-names, passed-chip, passed-command, passed-data, passed-fall, passed-rise}
+use Rattle.chain.proofs.Passed.{passed-sound, passed-names, passed-chip, passed-data, passed-fall, passed-rise}
 use Rattle.chain.proofs.Rules.{chainFields}
-use Rattle.chain.proofs.Soundness.{SoundChain, SoundReply, parts, whole, chip-sound, reply-parts, reply-delivered, reply-whole, under-way, under-way-parts, next-left, selected-sound}
+use Rattle.chain.proofs.Soundness.{SoundChain, SoundReply, parts, whole, chip-sound, reply-delivered, reply-whole, under-way, under-way-parts, next-left, selected-sound}
 
 -- a sound chip put in a chip's place
 chips-kept : (s : Chain) (i : ℕ) (c : Chip) → chipSound c ≡ true → sound s ≡ true → chipsSound (withChip i c s) ≡ true

@@ -11,7 +11,6 @@ use Rattle.bits.specs.Byte.{bit}
 use Rattle.search.proofs.Order.{candidate-lt}
 use Rattle.search.specs.Candidate.{channelOf}
 use Rattle.chip.proofs.Soundness.{code-le}
-use Rattle.chip.specs.Acknowledge.{responseLevel}
 use Rattle.chip.specs.Sound.{chipSound}
 use Rattle.chip.specs.Status.{candidateOf}
 use Rattle.chip.specs.declared.Chip.{Chip}

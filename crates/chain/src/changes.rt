@@ -25,8 +25,14 @@ impl Chain {
         match e {
             Event::Command(i, code) => self.after_command(i, code).accepted(Answer::Done),
             Event::Data(i, byte) => self.after_data(i, byte).accepted(Answer::Done),
-            Event::Status(i) => self.accepted(Answer::Byte(self.status_of(i))),
-            Event::Read(i) => self.accepted(Answer::Byte(self.data_of(i))),
+            Event::Status(i) => {
+                let status = self.status_of(i);
+                self.accepted(Answer::Byte(status))
+            }
+            Event::Read(i) => {
+                let register = self.data_of(i);
+                self.accepted(Answer::Byte(register))
+            }
             Event::Line(i, channel, level) => self.after_line(i, channel, level)
                 .accepted(Answer::Done),
             Event::Enable(level) => self.after_enable(level).accepted(Answer::Done),
@@ -56,7 +62,8 @@ impl Chain {
         ensures { λ r. ⌜ r ≡ changed (Data i byte) self ⌝ }
     {
         let chip = self.chip_at(i);
-        self.with_chip(i, chip.data(byte))
+        let written = chip.data(byte);
+        self.with_chip(i, written)
     }
 
     // A line level.

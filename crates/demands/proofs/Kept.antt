@@ -1,14 +1,15 @@
 -- What the events leave alone, proved.
 -- Assumes nothing.
 use mathlib.Core.Bool.{Bool, true, false, _&&_}
-use mathlib.Core.Path.{_≡_, refl, ap, sym, subst, _∙_}
+use mathlib.Core.Path.{_≡_, refl, sym, _∙_}
 use Prim.Native.Nat.{ℕ, _≤_, _<_}
 use native.Mathlib.Omega.{arith}
-use lib.Dec.{T, eqb, ltb}
+use lib.Dec.{eqb}
 use lib.ListN.{length, length-set}
 use lib.Seq.{getD-set-other}
 use borrow.Author.Tests.{eqb-true, eqb-false, ne-eqb, ltb-true}
-use Rattle.bits.proofs.Below.{both-left, both-right}
+use Rattle.bits.proofs.Below.{both-right, both-not}
+use Rattle.refusal.proofs.Numbers.{not-both}
 use Rattle.refusal.specs.declared.Verdict.{Verdict}
 use Rattle.refusal.specs.declared.Verdict.the-variants.{Accepted, Refused}
 use Rattle.chip.specs.declared.Chip.{Chip}
@@ -31,9 +32,6 @@ use Rattle.chain.specs.declared.Reply.{Reply}
 use Rattle.chain.specs.declared.Response.{Response}
 use Rattle.chain.specs.declared.Response.the-variants.{Idle, UnderWay}
 use Rattle.demands.specs.Kept.{Kept, replaces}
-
-none : {A : Type 0} → false ≡ true → A
-none e = absurd (subst T (sym e) tt)
 
 -- a chain beside the one before: the same chips but for the one place, as many of them, and the same count
 record Beside (at : ℕ → Bool) (t s : Chain) : Type 0 where
@@ -98,16 +96,16 @@ one-number : (i j k : ℕ) → eqb i j ≡ true → eqb i k ≡ true → j ≡ k
 one-number i j k ej ek = sym (eqb-true i j ej) ∙ eqb-true i k ek
 
 one-response : (response : Response) (j k : ℕ) → isResponding response j ≡ true → isResponding response k ≡ true → j ≡ k
-one-response Idle j k ej ek = none ej
+one-response Idle j k ej ek = not-both ej
 one-response (UnderWay r) j k ej ek = one-number (r .chip) j k ej ek
 
 one : (e : Event) (s : Chain) (j k : ℕ) → replaces e s j ≡ true → replaces e s k ≡ true → j ≡ k
 one (Command i code) s j k ej ek = one-number i j k ej ek
 one (Data i byte) s j k ej ek = one-number i j k ej ek
-one (Status i) s j k ej ek = none ej
-one (Read i) s j k ej ek = none ej
+one (Status i) s j k ej ek = not-both ej
+one (Read i) s j k ej ek = not-both ej
 one (Line i channel level) s j k ej ek = one-number i j k ej ek
-one (Enable level) s j k ej ek = none ej
+one (Enable level) s j k ej ek = not-both ej
 one Fall s j k ej ek =
     one-response (selected s) j k (both-right (isIdle (s .response)) _ ej) (both-right (isIdle (s .response)) _ ek)
 one Rise s j k ej ek = one-response (s .response) j k ej ek
@@ -124,10 +122,6 @@ response-past : (response : Response) (s : Chain) (k : ℕ) → s .response ≡ 
 response-past Idle s k is e l = refl
 response-past (UnderWay r) s k is e l = not-past (r .chip) (s .count) k (under-way-parts s r e is .chip) l
 
-and-false : (a b : Bool) → b ≡ false → a && b ≡ false
-and-false true b e = e
-and-false false b e = refl
-
 past : (e : Event) (s : Chain) (k : ℕ) → verdictOf e s ≡ Accepted → s .count ≤ k → replaces e s k ≡ false
 past (Command i code) s k v l = not-past i (s .count) k (ltb-true _ _ (passed-names (Command i code) s v)) l
 past (Data i byte) s k v l = not-past i (s .count) k (ltb-true _ _ (passed-names (Data i byte) s v)) l
@@ -135,7 +129,7 @@ past (Status i) s k v l = refl
 past (Read i) s k v l = refl
 past (Line i channel level) s k v l = not-past i (s .count) k (ltb-true _ _ (passed-names (Line i channel level) s v)) l
 past (Enable level) s k v l = refl
-past Fall s k v l = and-false (isIdle (s .response)) _ (selected-past (selected s) s k refl (passed-sound Fall s v) l)
+past Fall s k v l = both-not (isIdle (s .response)) _ (selected-past (selected s) s k refl (passed-sound Fall s v) l)
 past Rise s k v l = response-past (s .response) s k refl (passed-sound Rise s v) l
 
 judged-past : (v : Verdict) (e : Event) (s : Chain) (k : ℕ) → verdictOf e s ≡ v → s .count ≤ k → chipAt (judged v e s .chain) k ≡ chipAt s k

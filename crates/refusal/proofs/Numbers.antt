@@ -26,7 +26,8 @@ not-zero BrokenEvent e = omega arith
 not-zero ShortResults e = omega arith
 not-zero UnknownKind e = omega arith
 
-not-both : {A : Type 0} → false ≡ true → A
+-- no test both holds and fails
+pub not-both : {A : Type 0} → false ≡ true → A
 not-both e = absurd (subst T (sym e) tt)
 
 -- tests that accept have each been passed

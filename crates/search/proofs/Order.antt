@@ -12,7 +12,7 @@ use Rattle.bits.proofs.Byte.{bit-waiting}
 use Rattle.search.specs.Candidate.{candidate, candidateIn, channelOf}
 use Rattle.search.specs.Order.{lastOf, channelAt, firstIn, firstWaiting, fence}
 use Rattle.search.specs.declared.Candidate.{Candidate}
-use Rattle.search.specs.declared.Candidate.the-variants.{Channel, Nobody}
+use Rattle.search.specs.declared.Candidate.the-variants.{Nobody}
 
 -- a place of an order has a channel of the chip
 pub channel-lt : (last place : ℕ) → channelAt last place < 8
