@@ -18,7 +18,7 @@ use chip::Meaning;
 
 impl Chain {
     // An event that no refusal meets.
-    pub fn happens(self, e: Event) -> Outcome
+    pub(crate) fn happens(self, e: Event) -> Outcome
         requires { ⌜ verdictOf e self ≡ Accepted ⌝ }
         ensures { λ r. ⌜ r ≡ judged Accepted e self ⌝ }
     {
@@ -117,7 +117,7 @@ impl Response {
     fn after_command(self, i: u8, code: u8) -> Response
         ensures { λ r. ⌜ r ≡ afterCommand i code self ⌝ }
     {
-        if (code == 0) & self.is_of(i) {
+        if Meaning::is_reset(code) & self.is_of(i) {
             Response::Idle
         } else {
             self

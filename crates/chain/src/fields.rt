@@ -13,7 +13,7 @@ use refusal::Refusal;
 
 impl Reply {
     // The response with one byte more delivered.
-    pub fn one_more(mut self) -> Reply
+    pub(crate) fn one_more(mut self) -> Reply
         requires { ⌜ self .delivered < 255 ⌝ }
         ensures { λ r. ⌜ r ≡ oneMore self ⌝ }
     {
@@ -24,7 +24,7 @@ impl Reply {
 
 impl Chain {
     // The chain of a refused start: count 0, all zero, without destination or response.
-    pub fn zero() -> Chain
+    pub(crate) fn zero() -> Chain
         ensures { λ r. ⌜ r ≡ zeroChain ⌝ }
     {
         let chip = Chip::zero();
@@ -39,7 +39,7 @@ impl Chain {
     }
 
     // Chip i.
-    pub fn chip_at(self, i: u8) -> Chip
+    pub(crate) fn chip_at(self, i: u8) -> Chip
         requires { ⌜ i < 8 ⌝ }
         ensures { λ r. ⌜ r ≡ chipAt self i ⌝ }
     {
@@ -48,7 +48,7 @@ impl Chain {
     }
 
     // The chain with chip i replaced.
-    pub fn with_chip(mut self, i: u8, chip: Chip) -> Chain
+    pub(crate) fn with_chip(mut self, i: u8, chip: Chip) -> Chain
         requires { ⌜ i < 8 ⌝ }
         ensures { λ r. ⌜ r ≡ withChip i chip self ⌝ }
     {
@@ -58,7 +58,7 @@ impl Chain {
     }
 
     // The chain with another response. (A field that is an enum is not stored to: the record is written anew, here and nowhere else.)
-    pub fn with_response(self, response: Response) -> Chain
+    pub(crate) fn with_response(self, response: Response) -> Chain
         ensures { λ r. ⌜ r ≡ withResponse response self ⌝ }
     {
         let chips = self.chips;
@@ -73,7 +73,7 @@ impl Chain {
     }
 
     // The chain after one more accepted event: from 65,535 the event number rolls over to 0.
-    pub fn counted(mut self) -> Chain
+    pub(crate) fn counted(mut self) -> Chain
         ensures { λ r. ⌜ r ≡ counted self ⌝ }
     {
         self.event = std::num::wrapping_add_u16(self.event, 1);
@@ -81,7 +81,7 @@ impl Chain {
     }
 
     // What an accepted event hands back.
-    pub fn accepted(self, answer: Answer) -> Outcome
+    pub(crate) fn accepted(self, answer: Answer) -> Outcome
         ensures { λ r. ⌜ r ≡ accepted answer self ⌝ }
     {
         let chain = self.counted();
@@ -92,7 +92,7 @@ impl Chain {
     }
 
     // What a refused event hands back: the chain as given.
-    pub fn refused(self, why: Refusal) -> Outcome
+    pub(crate) fn refused(self, why: Refusal) -> Outcome
         ensures { λ r. ⌜ r ≡ refused why self ⌝ }
     {
         Outcome {

@@ -1,13 +1,13 @@
 // The pins of a chain, none of them stored: each is worked out from the state. A level is true where it is high.
 ghost use mathlib.Core.Path.{_≡_};
 ghost use Prim.Native.Nat.{_<_};
-ghost use Rattle.chain.specs.Pins.{isIdle, isResponding, eoAt, ei, eo, rip, pause};
+ghost use Rattle.chain.specs.Pins.{isIdle, isResponding, eoAt, ei, rip, pause};
 use crate::Chain;
 use crate::Response;
 
 impl Response {
     // Whether no response is under way.
-    pub fn is_idle(self) -> bool
+    pub(crate) fn is_idle(self) -> bool
         ensures { λ r. ⌜ r ≡ isIdle self ⌝ }
     {
         match self {
@@ -17,7 +17,7 @@ impl Response {
     }
 
     // Whether chip i is responding.
-    pub fn is_of(self, i: u8) -> bool
+    pub(crate) fn is_of(self, i: u8) -> bool
         ensures { λ r. ⌜ r ≡ isResponding self i ⌝ }
     {
         match self {
@@ -29,7 +29,7 @@ impl Response {
 
 impl Chain {
     // EO of chip i at a level of its EI: low if EI is low, if M7 is clear, or if the chip is responding.
-    pub fn eo_at(self, ei: bool, i: u8) -> bool
+    pub(crate) fn eo_at(self, ei: bool, i: u8) -> bool
         requires { ⌜ i < 8 ⌝ }
         ensures { λ r. ⌜ r ≡ eoAt ei self i ⌝ }
     {
@@ -39,7 +39,7 @@ impl Chain {
     }
 
     // EI of chip 0 is the chain's; EI of another is EO of the chip before.
-    pub fn ei(self, i: u8) -> bool
+    pub(crate) fn ei(self, i: u8) -> bool
         requires { ⌜ i < 8 ⌝ }
         ensures { λ r. ⌜ r ≡ ei self i ⌝ }
     {
@@ -50,16 +50,8 @@ impl Chain {
         level
     }
 
-    // EO of chip i.
-    pub fn eo(self, i: u8) -> bool
-        requires { ⌜ i < 8 ⌝ }
-        ensures { λ r. ⌜ r ≡ eo self i ⌝ }
-    {
-        self.eo_at(self.ei(i), i)
-    }
-
     // RIP is low while a response is under way.
-    pub fn rip(self) -> bool
+    pub(crate) fn rip(self) -> bool
         ensures { λ r. ⌜ r ≡ rip self ⌝ }
     {
         let response = self.response;
@@ -67,7 +59,7 @@ impl Chain {
     }
 
     // PAUSE is low when IACK is low and no response is under way.
-    pub fn pause(self) -> bool
+    pub(crate) fn pause(self) -> bool
         ensures { λ r. ⌜ r ≡ pause self ⌝ }
     {
         let response = self.response;

@@ -68,7 +68,7 @@ impl Chain {
     }
 
     // IACK falls, and it is accepted: with a response under way its chip drives the next byte; otherwise it is a first pulse.
-    pub fn fallen(self) -> Outcome
+    pub(crate) fn fallen(self) -> Outcome
         requires { ⌜ sound self ≡ true ⌝ }
         requires { ⌜ self .iack ≡ true ⌝ }
         ensures { λ r. ⌜ r ≡ judged Accepted Fall self ⌝ }
@@ -138,7 +138,7 @@ impl Chain {
     }
 
     // IACK rises: after the last byte the response ends; after a stall nothing more changes.
-    pub fn risen(self) -> Chain
+    pub(crate) fn risen(self) -> Chain
         requires { ⌜ sound self ≡ true ⌝ }
         ensures { λ r. ⌜ r ≡ risen (self .response) self ⌝ }
     {

@@ -12,7 +12,7 @@ use refusal::Verdict;
 
 impl Chain {
     // The verdict on an event.
-    pub fn verdict(self, e: Event) -> Verdict
+    pub(crate) fn verdict(self, e: Event) -> Verdict
         requires { ⌜ sound self ≡ true ⌝ }
         ensures { λ r. ⌜ r ≡ verdictOf e self ⌝ }
     {

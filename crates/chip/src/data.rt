@@ -9,14 +9,14 @@ use crate::Chip;
 use crate::Destination;
 
 // Where the byte of a level and a place stands in the response memory.
-pub fn memory_place(level: u8, place: u8) -> usize
+pub(crate) fn memory_place(level: u8, place: u8) -> usize
     ensures { λ r. ⌜ r ≡ memoryPlace level place ⌝ }
 {
     level as usize * 4 + place as usize
 }
 
 impl Destination {
-    pub fn is_nowhere(self) -> bool
+    pub(crate) fn is_nowhere(self) -> bool
         ensures { λ r. ⌜ r ≡ hasNoDestination self ⌝ }
     {
         match self {

@@ -37,11 +37,18 @@ impl Meaning {
         }
     }
 
+    // Whether a code is the reset's.
+    pub fn is_reset(code: u8) -> bool
+        ensures { λ r. ⌜ r ≡ isReset code ⌝ }
+    {
+        code == 0
+    }
+
     // 00 is the reset; 01 to 0F are undefined.
     fn reset_or_undefined(code: u8) -> Meaning
         ensures { λ r. ⌜ r ≡ cond (isReset code) (Row Reset) Undefined ⌝ }
     {
-        if code == 0 {
+        if Meaning::is_reset(code) {
             Meaning::Row(Command::Reset)
         } else {
             Meaning::Undefined

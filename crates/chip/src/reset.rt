@@ -52,7 +52,7 @@ impl Chip {
     }
 
     // Reset clears all registers but IMR, which becomes 255; memory, counts and lines stay.
-    pub fn reset(self) -> Chip
+    pub(crate) fn reset(self) -> Chip
         ensures { λ r. ⌜ r ≡ reset self ⌝ }
     {
         let memory = self.memory;
@@ -73,7 +73,7 @@ impl Chip {
     }
 
     // The chip with another destination. (A field that is an enum is not stored to: the record is written anew, here and nowhere else.)
-    pub fn with_destination(self, destination: Destination) -> Chip
+    pub(crate) fn with_destination(self, destination: Destination) -> Chip
         ensures { λ r. ⌜ r ≡ withDestination destination self ⌝ }
     {
         let memory = self.memory;

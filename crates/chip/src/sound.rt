@@ -6,7 +6,7 @@ use crate::Destination;
 
 impl Destination {
     // The chosen level at most 7, its place at most 4.
-    pub fn is_sound(self) -> bool
+    pub(crate) fn is_sound(self) -> bool
         ensures { λ r. ⌜ r ≡ destinationSound self ⌝ }
     {
         match self {

@@ -13,14 +13,14 @@ impl Chip {
     }
 
     // M2.
-    pub fn is_polled(self) -> bool
+    pub(crate) fn is_polled(self) -> bool
         ensures { λ r. ⌜ r ≡ isPolled self ⌝ }
     {
         bits::is_set(self.mode, 2)
     }
 
     // M0.
-    pub fn is_rotating(self) -> bool
+    pub(crate) fn is_rotating(self) -> bool
         ensures { λ r. ⌜ r ≡ isRotating self ⌝ }
     {
         bits::is_set(self.mode, 0)
