@@ -57,7 +57,7 @@ impl Chain {
         self
     }
 
-    // The chain with another response. (A field that is an enum is not stored to: the record is written anew, here and nowhere else.)
+    // The chain with another response. (A field that is an enum cannot be stored to, so the record is written anew, in this one place.)
     pub(crate) fn with_response(self, response: Response) -> Chain
         ensures { λ r. ⌜ r ≡ withResponse response self ⌝ }
     {

@@ -44,6 +44,7 @@ impl Chip {
             ),
             Command::ClearIsr => chip.isr = 0,
             Command::ClearIsrBit(k) => chip.isr = bits::without_bit(chip.isr, k),
+            // A remainder by the width of M4 to M0 or M6 M5 leaves them as they are, and shows that the sum is a byte.
             Command::LoadMode(m) => chip.mode = chip.mode / 32 * 32 + m % 32,
             Command::LoadRead(m) => chip.mode = chip.mode / 128 * 128 + m % 4 * 32 + chip.mode % 32,
             Command::LoadReadAndArm(m) => chip.mode = 128 + m % 4 * 32 + chip.mode % 32,

@@ -16,6 +16,7 @@ pub(crate) fn memory_place(level: u8, place: u8) -> usize
 }
 
 impl Destination {
+    // Whether it is none.
     pub(crate) fn is_nowhere(self) -> bool
         ensures { λ r. ⌜ r ≡ hasNoDestination self ⌝ }
     {

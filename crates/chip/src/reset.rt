@@ -13,23 +13,15 @@ impl Chip {
     // Every IREQ line high.
     pub const LINES: u8 = 255;
 
-    // The power-up chip: the response memory holds the fill, every count code the fill modulo 4.
+    // The power-up chip: as after reset, with all lines high, the fill in the response memory, and the fill modulo 4 in every count code.
     pub fn power_up(fill: u8) -> Chip
         ensures { λ r. ⌜ r ≡ powerUp fill ⌝ }
     {
-        Chip {
-            irr: 0,
-            isr: 0,
-            imr: Chip::MASK,
-            acr: 0,
-            mode: 0,
-            command: 0,
-            memory: [fill; 32],
-            counts: [fill % 4; 8],
-            lines: Chip::LINES,
-            pointer: Chip::POINTER,
-            destination: Destination::Nowhere,
-        }
+        let mut chip = Chip::zero();
+        chip.memory = [fill; 32];
+        chip.counts = [fill % 4; 8];
+        chip.lines = Chip::LINES;
+        chip.reset()
     }
 
     // The chip of a refused start: all zero, without destination.
@@ -51,28 +43,21 @@ impl Chip {
         }
     }
 
-    // Reset clears all registers but IMR, which becomes 255; memory, counts and lines stay.
-    pub(crate) fn reset(self) -> Chip
+    // Reset clears all registers but IMR, which becomes 255; pointer 7, no destination. Memory, counts and lines stay.
+    pub(crate) fn reset(mut self) -> Chip
         ensures { λ r. ⌜ r ≡ reset self ⌝ }
     {
-        let memory = self.memory;
-        let counts = self.counts;
-        Chip {
-            irr: 0,
-            isr: 0,
-            imr: Chip::MASK,
-            acr: 0,
-            mode: 0,
-            command: 0,
-            memory: memory,
-            counts: counts,
-            lines: self.lines,
-            pointer: Chip::POINTER,
-            destination: Destination::Nowhere,
-        }
+        self.irr = 0;
+        self.isr = 0;
+        self.imr = Chip::MASK;
+        self.acr = 0;
+        self.mode = 0;
+        self.command = 0;
+        self.pointer = Chip::POINTER;
+        self.with_destination(Destination::Nowhere)
     }
 
-    // The chip with another destination. (A field that is an enum is not stored to: the record is written anew, here and nowhere else.)
+    // The chip with another destination. (A field that is an enum cannot be stored to, so the record is written anew, in this one place.)
     pub(crate) fn with_destination(self, destination: Destination) -> Chip
         ensures { λ r. ⌜ r ≡ withDestination destination self ⌝ }
     {
