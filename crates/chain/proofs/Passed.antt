@@ -1,21 +1,23 @@
 -- What an accepted event has passed: the chain is sound, a chip that it names is below the count, and its own tests.
 -- Assumes nothing.
 use mathlib.Core.Bool.{Bool, true, false, not}
-use mathlib.Core.List.{[], _∷_}
-use mathlib.Core.Path.{_≡_, refl}
+use mathlib.Core.List.{List, [], _∷_}
+use mathlib.Core.Path.{_≡_, refl, ap, sym, _∙_}
 use Prim.Native.Nat.{ℕ, _<_}
 use native.Mathlib.Nat.{lt-of-lt-of-le}
 use lib.Dec.{leb, ltb}
 use borrow.Author.Tests.{leb-false, lt-ltb, ltb-true, not-false}
-use Rattle.refusal.proofs.Numbers.{passed-first, passed-rest}
-use Rattle.refusal.specs.Numbers.{firstOf}
+use Rattle.refusal.proofs.Numbers.{passed-first, passed-rest, refused-already, accepted-so-far}
+use Rattle.refusal.specs.Numbers.{isAccepted, firstOf}
+use Rattle.refusal.specs.declared.Refusal.{Refusal}
 use Rattle.refusal.specs.declared.Refusal.the-variants.{NotSound, NoSuchChip, PulseUnderWay, IackThereAlready, UndefinedCommand, NoDestination, PastItsCount}
+use Rattle.refusal.specs.declared.Verdict.{Verdict}
 use Rattle.refusal.specs.declared.Verdict.the-variants.{Accepted}
 use Rattle.chip.specs.Data.{isPastItsCount}
 use Rattle.chip.specs.Figure4.{figure4, undefined}
 use Rattle.chip.specs.Sound.{chipSound}
 use Rattle.chain.specs.Fields.{chipAt}
-use Rattle.chain.specs.Refusals.{checks, noSuchChip, noSuchChannel, noSuchLevel, pulseUnderWay, undefinedCommand, noDestination, pastItsCount, verdictOf}
+use Rattle.chain.specs.Refusals.{checks, notSound, noSuchChip, noSuchChannel, noSuchLevel, pulseUnderWay, undefinedCommand, noDestination, pastItsCount, verdictOf}
 use Rattle.chain.specs.Sound.{sound}
 use Rattle.chain.specs.Views.{viewVerdict}
 use Rattle.chain.specs.declared.Chain.{Chain}
@@ -89,3 +91,16 @@ pub passed-view : (i : ℕ) (s : Chain) → viewVerdict i s ≡ Accepted → i <
 passed-view i s v =
     in-eight s i (not-false (sound s) (passed-first (not (sound s)) NotSound (noSuchChip i s ∷ []) v))
     (below i (s .count) (passed-first (leb (s .count) i) NoSuchChip [] (passed-rest (not (sound s)) NotSound (noSuchChip i s ∷ []) v)))
+
+-- the tests of a bus access come first: where they refuse, that is the verdict; where they accept, the rest decides
+pub refused-on-the-bus : (i : ℕ) (s : Chain) (rest : List (Bool × Refusal)) (bus : Verdict) (ok : Bool) → bus ≡ verdictOf (Status i) s → ok ≡ isAccepted bus → ok ≡ false
+    → firstOf (notSound s ∷ noSuchChip i s ∷ pulseUnderWay s ∷ rest) ≡ bus
+unfolding verdictOf
+refused-on-the-bus i s rest bus ok is told e =
+    refused-already (notSound s ∷ noSuchChip i s ∷ pulseUnderWay s ∷ []) rest (ap isAccepted (sym is) ∙ sym told ∙ e) ∙ sym is
+
+pub left-to-the-rest : (i : ℕ) (s : Chain) (rest : List (Bool × Refusal)) (bus : Verdict) (ok : Bool) → bus ≡ verdictOf (Status i) s → ok ≡ isAccepted bus → ok ≡ true
+    → firstOf (notSound s ∷ noSuchChip i s ∷ pulseUnderWay s ∷ rest) ≡ firstOf rest
+unfolding verdictOf
+left-to-the-rest i s rest bus ok is told e =
+    accepted-so-far (notSound s ∷ noSuchChip i s ∷ pulseUnderWay s ∷ []) rest (ap isAccepted (sym is) ∙ sym told ∙ e)

@@ -1,13 +1,13 @@
 -- `chain::Chain::after_command` meets its contract.
 -- Assumes nothing.
-use borrow.Author.Needs.{needs}
-use Rattle.chain.proofs.Passed.{in-eight, passed-sound, passed-names, passed-command}
-use Rattle.chain.specs.Events.{changed}
-use Rattle.chain.proofs.Rules.{chainFields}
 use mathlib.Core.Path.{ap, sym, subst, _∙_}
 use lib.Dec.{T}
+use borrow.Author.Needs.{needs}
 use Rattle.chip.specs.Figure4.{undefined}
 use Rattle.chip.specs.declared.Meaning.{Meaning}
+use Rattle.chain.specs.Events.{changed}
+use Rattle.chain.proofs.Passed.{in-eight, passed-sound, passed-names, passed-command}
+use Rattle.chain.proofs.Rules.{chainFields}
 use Rattle.chain.proofs.Chain.after_command.Statement.{statement}
 use Rattle.chain.proofs.Chain.after_command.Tie as tie
 

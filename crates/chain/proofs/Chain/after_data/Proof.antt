@@ -1,7 +1,7 @@
 -- `chain::Chain::after_data` meets its contract.
 -- Assumes nothing.
-use Rattle.chain.proofs.Passed.{in-eight, passed-sound, passed-names, passed-chip, passed-data}
 use Rattle.chain.specs.Events.{changed}
+use Rattle.chain.proofs.Passed.{in-eight, passed-sound, passed-names, passed-chip, passed-data}
 use Rattle.chain.proofs.Chain.after_data.Statement.{statement}
 use Rattle.chain.proofs.Chain.after_data.Tie as tie
 

@@ -1,8 +1,8 @@
 -- `chain::Chain::after_line` meets its contract.
 -- Assumes nothing.
 use borrow.Author.Needs.{needs}
-use Rattle.chain.proofs.Passed.{in-eight, passed-sound, passed-names}
 use Rattle.chain.specs.Events.{changed}
+use Rattle.chain.proofs.Passed.{in-eight, passed-sound, passed-names}
 use Rattle.chain.proofs.Chain.after_line.Statement.{statement}
 use Rattle.chain.proofs.Chain.after_line.Tie as tie
 

@@ -1,7 +1,7 @@
 -- `chain::Chain::after_rise` meets its contract.
 -- Assumes nothing.
-use Rattle.chain.proofs.Passed.{passed-sound}
 use Rattle.chain.specs.Events.{changed}
+use Rattle.chain.proofs.Passed.{passed-sound}
 use Rattle.chain.proofs.Rules.{chainFields}
 use Rattle.chain.proofs.Chain.after_rise.Statement.{statement}
 use Rattle.chain.proofs.Chain.after_rise.Tie as tie

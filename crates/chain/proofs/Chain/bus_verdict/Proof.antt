@@ -1,7 +1,7 @@
 -- `chain::Chain::bus_verdict` meets its contract.
 -- Assumes nothing.
-use Rattle.chain.specs.Refusals.{verdictOf}
 use borrow.Author.Tests.{le-leb, lt-leb, not-true, not-false}
+use Rattle.chain.specs.Refusals.{verdictOf}
 use Rattle.chain.proofs.Chain.bus_verdict.Statement.{statement}
 use Rattle.chain.proofs.Chain.bus_verdict.Tie as tie
 

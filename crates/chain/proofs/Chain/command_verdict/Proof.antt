@@ -1,13 +1,13 @@
 -- `chain::Chain::command_verdict` meets its contract.
 -- Assumes nothing.
-use borrow.Author.Needs.{needs}
 use mathlib.Core.List.{[], _∷_}
-use mathlib.Core.Path.{_≡_, ap, sym, _∙_}
+use mathlib.Core.Path.{_≡_, sym}
+use borrow.Author.Needs.{needs}
 use borrow.Author.Tests.{not-true, not-false}
-use Rattle.refusal.proofs.Numbers.{refused-already, accepted-so-far}
-use Rattle.refusal.specs.Numbers.{firstOf, isAccepted}
-use Rattle.chain.specs.Refusals.{notSound, noSuchChip, pulseUnderWay, undefinedCommand, verdictOf}
+use Rattle.refusal.specs.Numbers.{firstOf}
+use Rattle.chain.specs.Refusals.{undefinedCommand, verdictOf}
 use Rattle.chain.specs.declared.Event.the-variants.{Command}
+use Rattle.chain.proofs.Passed.{refused-on-the-bus, left-to-the-rest}
 use Rattle.chain.proofs.Chain.command_verdict.Statement.{statement}
 use Rattle.chain.proofs.Chain.command_verdict.Tie as tie
 
@@ -23,18 +23,17 @@ rest-decides : (c : tie.Else1) →
     ≡ firstOf (undefinedCommand (c .before .before .before .args .code) ∷ [])
 unfolding verdictOf
 rest-decides c =
-    accepted-so-far (notSound (c .before .before .before .args .self) ∷ noSuchChip (c .before .before .before .args .i) (c .before .before .before .args .self) ∷ pulseUnderWay (c .before .before .before .args .self) ∷ [])
+    left-to-the-rest (c .before .before .before .args .i) (c .before .before .before .args .self)
     (undefinedCommand (c .before .before .before .args .code) ∷ [])
-    (ap isAccepted (sym (c .before .before .bus-verdict .ensures)) ∙ sym (c .before .is-accepted .ensures) ∙ not-false _ (c .if1 .left))
+    _ _ (c .before .before .bus-verdict .ensures) (c .before .is-accepted .ensures) (not-false _ (c .if1 .left))
 
 returns : tie.Need-returns
 unfolding verdictOf
 returns c =
     sym
-    (refused-already (notSound (c .before .before .before .args .self) ∷ noSuchChip (c .before .before .before .args .i) (c .before .before .before .args .self) ∷ pulseUnderWay (c .before .before .before .args .self) ∷ [])
+    (refused-on-the-bus (c .before .before .before .args .i) (c .before .before .before .args .self)
     (undefinedCommand (c .before .before .before .args .code) ∷ [])
-    (ap isAccepted (sym (c .before .before .bus-verdict .ensures)) ∙ sym (c .before .is-accepted .ensures) ∙ not-true _ (c .if1 .taken))
-    ∙ sym (c .before .before .bus-verdict .ensures))
+    _ _ (c .before .before .bus-verdict .ensures) (c .before .is-accepted .ensures) (not-true _ (c .if1 .taken)))
 
 of-requires : tie.Need-of-requires
 of-requires c κs = search needs

@@ -1,16 +1,16 @@
 -- `chain::Chain::data_verdict` meets its contract.
 -- Assumes nothing.
-use borrow.Author.Needs.{needs}
 use mathlib.Core.Bool.{true}
 use mathlib.Core.List.{[], _∷_}
 use mathlib.Core.Path.{_≡_, ap, sym, _∙_}
-use borrow.Author.Tests.{ltb-true, not-true, not-false}
-use Rattle.refusal.proofs.Numbers.{accepted-is, refused-already, accepted-so-far}
-use Rattle.refusal.specs.Numbers.{firstOf, isAccepted}
-use Rattle.chain.specs.Refusals.{notSound, noSuchChip, pulseUnderWay, noDestination, pastItsCount, verdictOf}
-use Rattle.chain.specs.declared.Event.the-variants.{Data, Status}
 use lib.Dec.{ltb}
-use Rattle.chain.proofs.Passed.{in-eight, passed-names}
+use borrow.Author.Needs.{needs}
+use borrow.Author.Tests.{ltb-true, not-true, not-false}
+use Rattle.refusal.proofs.Numbers.{accepted-is}
+use Rattle.refusal.specs.Numbers.{firstOf, isAccepted}
+use Rattle.chain.specs.Refusals.{noDestination, pastItsCount, verdictOf}
+use Rattle.chain.specs.declared.Event.the-variants.{Data, Status}
+use Rattle.chain.proofs.Passed.{in-eight, passed-names, refused-on-the-bus, left-to-the-rest}
 use Rattle.chain.proofs.Soundness.{chip-sound}
 use Rattle.chain.proofs.Chain.data_verdict.Statement.{statement}
 use Rattle.chain.proofs.Chain.data_verdict.Tie as tie
@@ -27,9 +27,9 @@ rest-decides : (c : tie.Else1) →
     ≡ firstOf (noDestination (c .before .before .before .args .i) (c .before .before .before .args .self) ∷ pastItsCount (c .before .before .before .args .i) (c .before .before .before .args .self) ∷ [])
 unfolding verdictOf
 rest-decides c =
-    accepted-so-far (notSound (c .before .before .before .args .self) ∷ noSuchChip (c .before .before .before .args .i) (c .before .before .before .args .self) ∷ pulseUnderWay (c .before .before .before .args .self) ∷ [])
+    left-to-the-rest (c .before .before .before .args .i) (c .before .before .before .args .self)
     (noDestination (c .before .before .before .args .i) (c .before .before .before .args .self) ∷ pastItsCount (c .before .before .before .args .i) (c .before .before .before .args .self) ∷ [])
-    (ap isAccepted (sym (c .before .before .bus-verdict .ensures)) ∙ sym (c .before .is-accepted .ensures) ∙ not-false _ (c .if1 .left))
+    _ _ (c .before .before .bus-verdict .ensures) (c .before .is-accepted .ensures) (not-false _ (c .if1 .left))
 
 -- and the chip is below the count
 named : (c : tie.Else1) →
@@ -42,10 +42,9 @@ returns : tie.Need-returns
 unfolding verdictOf
 returns c =
     sym
-    (refused-already (notSound (c .before .before .before .args .self) ∷ noSuchChip (c .before .before .before .args .i) (c .before .before .before .args .self) ∷ pulseUnderWay (c .before .before .before .args .self) ∷ [])
+    (refused-on-the-bus (c .before .before .before .args .i) (c .before .before .before .args .self)
     (noDestination (c .before .before .before .args .i) (c .before .before .before .args .self) ∷ pastItsCount (c .before .before .before .args .i) (c .before .before .before .args .self) ∷ [])
-    (ap isAccepted (sym (c .before .before .bus-verdict .ensures)) ∙ sym (c .before .is-accepted .ensures) ∙ not-true _ (c .if1 .taken))
-    ∙ sym (c .before .before .bus-verdict .ensures))
+    _ _ (c .before .before .bus-verdict .ensures) (c .before .is-accepted .ensures) (not-true _ (c .if1 .taken)))
 
 chip-at-requires : tie.Need-chip-at-requires
 chip-at-requires c κs = in-eight _ _ (c .before .before .before .pre) (named (c))

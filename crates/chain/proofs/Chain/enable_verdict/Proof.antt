@@ -1,7 +1,7 @@
 -- `chain::Chain::enable_verdict` meets its contract.
 -- Assumes nothing.
-use Rattle.chain.specs.Refusals.{verdictOf}
 use borrow.Author.Tests.{lt-ltb, le-ltb}
+use Rattle.chain.specs.Refusals.{verdictOf}
 use Rattle.chain.proofs.Chain.enable_verdict.Statement.{statement}
 use Rattle.chain.proofs.Chain.enable_verdict.Tie as tie
 

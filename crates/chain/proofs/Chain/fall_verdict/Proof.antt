@@ -1,7 +1,7 @@
 -- `chain::Chain::fall_verdict` meets its contract.
 -- Assumes nothing.
-use Rattle.chain.specs.Refusals.{verdictOf}
 use borrow.Author.Tests.{not-true, not-false}
+use Rattle.chain.specs.Refusals.{verdictOf}
 use Rattle.chain.proofs.Chain.fall_verdict.Statement.{statement}
 use Rattle.chain.proofs.Chain.fall_verdict.Tie as tie
 

@@ -1,11 +1,11 @@
 -- `chain::Chain::fallen` meets its contract.
 -- Assumes nothing.
-use borrow.Author.Needs.{needs}
 use Prim.Native.Nat.{suc-le-suc}
 use native.Mathlib.Nat.{lt-of-lt-of-le}
-use Rattle.chain.proofs.Soundness.{count-le, under-way-parts, next-left}
+use borrow.Author.Needs.{needs}
 use Rattle.chain.specs.Events.{judged, changed}
 use Rattle.chain.specs.Pulse.{fallen, fallAnswer}
+use Rattle.chain.proofs.Soundness.{count-le, under-way-parts, next-left}
 use Rattle.chain.proofs.Chain.fallen.Statement.{statement}
 use Rattle.chain.proofs.Chain.fallen.Tie as tie
 

@@ -1,12 +1,12 @@
 -- `chain::Chain::first_pulse` meets its contract.
 -- Assumes nothing.
-use borrow.Author.Needs.{needs}
 use mathlib.Core.Path.{sym, _∙_}
 use Prim.Native.Nat.{suc-le-suc}
 use native.Mathlib.Nat.{lt-of-lt-of-le}
 use lib.Dec.{lit<}
-use Rattle.chain.proofs.Soundness.{count-le, selected-sound}
+use borrow.Author.Needs.{needs}
 use Rattle.chain.specs.Pulse.{firstPulse}
+use Rattle.chain.proofs.Soundness.{count-le, selected-sound}
 use Rattle.chain.proofs.Chain.first_pulse.Statement.{statement}
 use Rattle.chain.proofs.Chain.first_pulse.Tie as tie
 

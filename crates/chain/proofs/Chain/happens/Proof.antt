@@ -1,7 +1,7 @@
 -- `chain::Chain::happens` meets its contract.
 -- Assumes nothing.
-use borrow.Author.Needs.{needs}
 use mathlib.Core.Path.{_≡_, ap, sym, _∙_}
+use borrow.Author.Needs.{needs}
 use Rattle.refusal.specs.declared.Verdict.the-variants.{Accepted}
 use Rattle.chain.specs.Events.{judged, changed}
 use Rattle.chain.specs.Refusals.{verdictOf}

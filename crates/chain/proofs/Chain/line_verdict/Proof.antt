@@ -1,7 +1,7 @@
 -- `chain::Chain::line_verdict` meets its contract.
 -- Assumes nothing.
-use Rattle.chain.specs.Refusals.{verdictOf}
 use borrow.Author.Tests.{le-leb, lt-leb, lt-ltb, le-ltb}
+use Rattle.chain.specs.Refusals.{verdictOf}
 use Rattle.chain.proofs.Chain.line_verdict.Statement.{statement}
 use Rattle.chain.proofs.Chain.line_verdict.Tie as tie
 

@@ -1,10 +1,10 @@
 -- `chain::Chain::on` meets its contract.
 -- Assumes nothing.
+use mathlib.Core.Path.{sym, _∙_}
 use borrow.Author.Needs.{needs}
 use borrow.Author.Tests.{not-true, not-false}
 use Rattle.chain.specs.Events.{eventOf, judged}
 use Rattle.chain.specs.Refusals.{verdictOf}
-use mathlib.Core.Path.{sym, _∙_}
 use Rattle.chain.proofs.Chain.on.Statement.{statement}
 use Rattle.chain.proofs.Chain.on.Tie as tie
 

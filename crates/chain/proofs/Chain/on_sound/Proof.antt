@@ -1,7 +1,7 @@
 -- `chain::Chain::on_sound` meets its contract.
 -- Assumes nothing.
-use borrow.Author.Needs.{needs}
 use mathlib.Core.Path.{sym, _∙_}
+use borrow.Author.Needs.{needs}
 use Rattle.chain.specs.Events.{eventOf, judged}
 use Rattle.chain.proofs.Chain.on_sound.Statement.{statement}
 use Rattle.chain.proofs.Chain.on_sound.Tie as tie

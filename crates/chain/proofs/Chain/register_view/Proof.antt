@@ -1,7 +1,7 @@
 -- `chain::Chain::register_view` meets its contract.
 -- Assumes nothing.
-use borrow.Author.Needs.{needs}
 use mathlib.Core.Path.{sym, _∙_}
+use borrow.Author.Needs.{needs}
 use Rattle.chain.specs.Views.{registerView, tableOr}
 use Rattle.chain.proofs.Passed.{passed-view}
 use Rattle.chain.proofs.Chain.register_view.Statement.{statement}

@@ -1,9 +1,9 @@
 -- `chain::Chain::risen` meets its contract.
 -- Assumes nothing.
-use borrow.Author.Needs.{needs}
 use native.Mathlib.Nat.{lt-of-lt-of-le}
-use Rattle.chain.proofs.Soundness.{count-le, under-way-parts}
+use borrow.Author.Needs.{needs}
 use Rattle.chain.specs.Pulse.{risen}
+use Rattle.chain.proofs.Soundness.{count-le, under-way-parts}
 use Rattle.chain.proofs.Chain.risen.Statement.{statement}
 use Rattle.chain.proofs.Chain.risen.Tie as tie
 

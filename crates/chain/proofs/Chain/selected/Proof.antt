@@ -1,9 +1,9 @@
 -- `chain::Chain::selected` meets its contract.
 -- Assumes nothing.
-use Rattle.chain.proofs.Soundness.{count-le, chip-sound}
+use native.Mathlib.Nat.{lt-of-lt-of-le}
 use borrow.Author.Tests.{le-ltb, lt-ltb}
 use Rattle.chain.specs.Pulse.{selected}
-use native.Mathlib.Nat.{lt-of-lt-of-le}
+use Rattle.chain.proofs.Soundness.{count-le, chip-sound}
 use Rattle.chain.proofs.Chain.selected.Statement.{statement}
 use Rattle.chain.proofs.Chain.selected.Tie as tie
 

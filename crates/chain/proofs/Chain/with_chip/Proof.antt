@@ -1,7 +1,7 @@
 -- `chain::Chain::with_chip` meets its contract.
 -- Assumes nothing.
-use borrow.Author.Needs.{needs}
 use mathlib.Core.Path.{refl}
+use borrow.Author.Needs.{needs}
 use Rattle.chain.proofs.Rules.{chainFields}
 use Rattle.chain.proofs.Chain.with_chip.Statement.{statement}
 use Rattle.chain.proofs.Chain.with_chip.Tie as tie

@@ -1,8 +1,8 @@
 -- `chip::Chip::at_level` meets its contract.
 -- Assumes nothing.
 use borrow.Author.Needs.{needs}
-use Rattle.chip.proofs.Rules.{chipFields}
 use Rattle.chip.specs.Data.{written}
+use Rattle.chip.proofs.Rules.{chipFields}
 use Rattle.chip.proofs.Chip.at_level.Statement.{statement}
 use Rattle.chip.proofs.Chip.at_level.Tie as tie
 

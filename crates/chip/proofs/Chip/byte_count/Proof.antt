@@ -1,7 +1,7 @@
 -- `chip::Chip::byte_count` meets its contract.
 -- Assumes nothing.
-use borrow.Author.Needs.{needs}
 use native.Mathlib.Omega.{arith}
+use borrow.Author.Needs.{needs}
 use Rattle.chip.proofs.Soundness.{code-le}
 use Rattle.chip.proofs.Chip.byte_count.Statement.{statement}
 use Rattle.chip.proofs.Chip.byte_count.Tie as tie

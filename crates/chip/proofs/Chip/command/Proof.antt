@@ -1,7 +1,7 @@
 -- `chip::Chip::command` meets its contract.
 -- Assumes nothing.
-use borrow.Author.Needs.{needs}
 use mathlib.Core.Path.{refl}
+use borrow.Author.Needs.{needs}
 use Rattle.chip.specs.Command.{commanded, obey}
 use Rattle.chip.specs.declared.Command.the-variants.{LoadMode, LoadRead, LoadReadAndArm, LoadReadAndDisarm}
 use Rattle.chip.proofs.Figure4.{row-narrow, preselected}

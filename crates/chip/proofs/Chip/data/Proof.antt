@@ -1,9 +1,9 @@
 -- `chip::Chip::data` meets its contract.
 -- Assumes nothing.
-use borrow.Author.Needs.{needs}
-use Rattle.chip.proofs.Rules.{chipFields}
-use Rattle.chip.specs.Data.{written}
 use native.Mathlib.Omega.{arith}
+use borrow.Author.Needs.{needs}
+use Rattle.chip.specs.Data.{written}
+use Rattle.chip.proofs.Rules.{chipFields}
 use Rattle.chip.proofs.Soundness.{level-le, place-lt}
 use Rattle.chip.proofs.Chip.data.Statement.{statement}
 use Rattle.chip.proofs.Chip.data.Tie as tie

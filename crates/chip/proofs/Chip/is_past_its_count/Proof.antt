@@ -1,7 +1,7 @@
 -- `chip::Chip::is_past_its_count` meets its contract.
 -- Assumes nothing.
-use borrow.Author.Needs.{needs}
 use native.Mathlib.Omega.{arith}
+use borrow.Author.Needs.{needs}
 use Rattle.chip.proofs.Soundness.{level-le}
 use Rattle.chip.proofs.Chip.is_past_its_count.Statement.{statement}
 use Rattle.chip.proofs.Chip.is_past_its_count.Tie as tie

@@ -1,8 +1,8 @@
 -- `chip::Chip::line` meets its contract.
 -- Assumes nothing.
 use borrow.Author.Needs.{needs}
-use Rattle.chip.proofs.Rules.{chipFields}
 use Rattle.chip.specs.Line.{lineSet}
+use Rattle.chip.proofs.Rules.{chipFields}
 use Rattle.chip.proofs.Chip.line.Statement.{statement}
 use Rattle.chip.proofs.Chip.line.Tie as tie
 

@@ -1,8 +1,8 @@
 -- `chip::Chip::status` meets its contract.
 -- Assumes nothing.
-use borrow.Author.Needs.{needs}
 use Prim.Native.Nat.{_<_}
 use native.Mathlib.Omega.{arith}
+use borrow.Author.Needs.{needs}
 use Rattle.search.proofs.Order.{candidate-lt}
 use Rattle.chip.proofs.Chip.status.Statement.{statement}
 use Rattle.chip.proofs.Chip.status.Tie as tie

@@ -1,8 +1,8 @@
 -- `chip::Meaning::of` meets its contract.
 -- Assumes nothing.
 use borrow.Author.Needs.{needs}
-use Rattle.chip.specs.Figure4.{figure4}
 use borrow.Author.Tests.{ne-eqb}
+use Rattle.chip.specs.Figure4.{figure4}
 use Rattle.chip.proofs.Meaning.of.Statement.{statement}
 use Rattle.chip.proofs.Meaning.of.Tie as tie
 
