@@ -1,20 +1,25 @@
--- What the events leave alone, proved.
+-- What the events keep, proved.
 -- Assumes nothing.
 use mathlib.Core.Bool.{Bool, true, false, _&&_}
-use mathlib.Core.Path.{_≡_, refl, sym, _∙_}
-use Prim.Native.Nat.{ℕ, _≤_, _<_}
+use mathlib.Core.List.{List, [], _∷_}
+use mathlib.Core.Path.{_≡_, refl, ap, sym, _∙_}
+use Prim.Native.Nat.{ℕ, _+_, _%_, _≤_, _<_}
+use native.Mathlib.Nat.{mod-lt}
 use native.Mathlib.Omega.{arith}
-use lib.Dec.{eqb}
+use lib.Dec.{eqb, lit<}
 use lib.ListN.{length, length-set}
 use lib.Seq.{getD-set-other}
 use borrow.Author.Tests.{eqb-true, eqb-false, ne-eqb, ltb-true}
+use Rattle.bits.specs.Below.{digit}
 use Rattle.bits.proofs.Below.{both-right, both-not}
 use Rattle.refusal.proofs.Numbers.{not-both}
+use Rattle.refusal.specs.Numbers.{isAccepted}
 use Rattle.refusal.specs.declared.Verdict.{Verdict}
 use Rattle.refusal.specs.declared.Verdict.the-variants.{Accepted, Refused}
 use Rattle.chip.specs.declared.Chip.{Chip}
 use Rattle.chip.specs.Fields.{noChip}
 use Rattle.chain.proofs.Kept as kept
+use Rattle.chain.proofs.Number.{number-kept}
 use Rattle.chain.proofs.Passed.{passed-sound, passed-names}
 use Rattle.chain.proofs.Rules.{chainFields}
 use Rattle.chain.proofs.Soundness.{under-way-parts, selected-sound}
@@ -31,6 +36,7 @@ use Rattle.chain.specs.declared.Event.the-variants.{Command, Data, Status, Read
 use Rattle.chain.specs.declared.Reply.{Reply}
 use Rattle.chain.specs.declared.Response.{Response}
 use Rattle.chain.specs.declared.Response.the-variants.{Idle, UnderWay}
+use Rattle.demands.specs.Along.{after, along, acceptedIn}
 use Rattle.demands.specs.Kept.{Kept, replaces}
 
 -- a chain beside the one before: the same chips but for the one place, as many of them, and the same count
@@ -163,6 +169,32 @@ unfolding judged accepted refused
 as-given (Refused why) e s other = refl
 as-given Accepted e s other = absurd (other (answers-zero e s))
 
+-- the event number along a list
+no-event : (n : ℕ) → n < 65536 → n ≡ (n + 0) % 65536
+no-event n h = omega arith
+
+no-step : (n a : ℕ) → (n + a) % 65536 ≡ (n + (0 + a)) % 65536
+no-step n a = omega arith
+
+mod-step : (n a : ℕ) → ((n + 1) % 65536 + a) % 65536 ≡ (n + (1 + a)) % 65536
+mod-step n a = omega arith
+
+number-judged : (v : Verdict) (e : Event) (s : Chain) (a : ℕ) → s .event < 65536 → (judged v e s .chain .event + a) % 65536 ≡ (s .event + (digit (isAccepted v) + a)) % 65536
+unfolding chainFields judged accepted refused counted
+number-judged (Refused why) e s a h = no-step (s .event) a
+number-judged Accepted e s a h = ap (λ (n : ℕ). ((n + 1) % 65536 + a) % 65536) (number-kept e s) ∙ mod-step (s .event) a
+
+number-lt : (v : Verdict) (e : Event) (s : Chain) → s .event < 65536 → judged v e s .chain .event < 65536
+unfolding chainFields judged accepted refused counted
+number-lt (Refused why) e s h = h
+number-lt Accepted e s h = mod-lt (changed e s .event + 1) (lit< tt)
+
+number : (s : Chain) (es : List Event) → s .event < 65536 → after s es .event ≡ (s .event + acceptedIn s es) % 65536
+unfolding after along eventOf
+number s [] h = no-event (s .event) h
+number s (e ∷ es) h =
+    number (eventOf e s .chain) es (number-lt (verdictOf e s) e s h) ∙ number-judged (verdictOf e s) e s (acceptedIn (eventOf e s .chain) es) h
+
 pub events-keep : Kept
 unfolding eventOf
 events-keep =
@@ -174,5 +206,6 @@ events-keep =
       past-the-count = λ e s k l. judged-past (verdictOf e s) e s k refl l;
       count-kept = λ e s. beside e s .count;
       records-kept = λ e s. beside e s .records;
+      number-counts = number;
       refused-as-given = λ e s other. as-given (verdictOf e s) e s other;
     }

@@ -1,7 +1,8 @@
 -- The worked wait, computed from the definitions.
 -- Assumes nothing.
 use mathlib.Core.Path.{refl}
-use Rattle.demands.specs.Wait.{answersIt, answersAnother, isWait, reaches, isCounted, along}
+use Rattle.demands.specs.Along.{along}
+use Rattle.demands.specs.Wait.{answersIt, answersAnother, isWait, reaches, isCounted}
 use Rattle.demands.specs.Worked.{allPending, WorkedWait}
 use Rattle.chain.proofs.Rules.{rules}
 

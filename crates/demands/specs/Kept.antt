@@ -1,8 +1,9 @@
--- What the events leave alone (document 01, "A chip" and "Numbers handed back"): a sound chain stays sound, an event replaces at most one chip and
--- leaves the others, also those past the count, and a refused one leaves everything.
+-- What the events keep (document 01, "A chip" and "Numbers handed back"): a sound chain stays sound, an event replaces at most one chip and
+-- leaves the others, also those past the count, a refused one leaves everything, and the event number counts the accepted ones.
 use mathlib.Core.Bool.{Bool, true, false, _&&_}
+use mathlib.Core.List.{List}
 use mathlib.Core.Path.{_≡_}
-use Prim.Native.Nat.{ℕ, _≤_}
+use Prim.Native.Nat.{ℕ, _+_, _%_, _≤_, _<_}
 use lib.Dec.{eqb}
 use lib.ListN.{length}
 use Rattle.chain.specs.Answers.{handed}
@@ -15,6 +16,7 @@ use Rattle.chain.specs.Start.{startOf}
 use Rattle.chain.specs.declared.Chain.{Chain}
 use Rattle.chain.specs.declared.Event.{Event}
 use Rattle.chain.specs.declared.Event.the-variants.{Command, Data, Status, Read, Line, Enable, Fall, Rise}
+use Rattle.demands.specs.Along.{after, acceptedIn}
 
 -- chip k is the one that an event may replace: the chip that it names, or that a first pulse selects, or whose response a rise may end
 abbrev pub replaces : Event → Chain → ℕ → Bool
@@ -40,3 +42,5 @@ pub record Kept : Type 0 where
   pub records-kept : (e : Event) (s : Chain) → length (eventOf e s .chain .chips) ≡ length (s .chips)
   -- a refused event hands back the chain as given
   pub refused-as-given : (e : Event) (s : Chain) → (handed (eventOf e s .answer) .number ≡ 0 → ⊥) → eventOf e s .chain ≡ s
+  -- the event number is the number before plus the accepted events, modulo 65,536
+  pub number-counts : (s : Chain) (es : List Event) → s .event < 65536 → after s es .event ≡ (s .event + acceptedIn s es) % 65536

@@ -1,3 +1,4 @@
+pub mod Along
 pub mod Bench
 pub mod Cases
 pub mod Corners

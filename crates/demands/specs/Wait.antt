@@ -1,9 +1,9 @@
 -- What the third demand speaks of: a wait, a first pulse that reaches a chip, and the two counts. Over any chain and any list of events.
 use mathlib.Core.Bool.{Bool, true, false, not, _&&_}
 use mathlib.Core.List.{List, [], _∷_}
-use Prim.Native.Nat.{ℕ, _+_}
+use Prim.Native.Nat.{ℕ}
 use lib.Dec.{eqb}
-use Rattle.bits.specs.Below.{digit, every}
+use Rattle.bits.specs.Below.{every}
 use Rattle.bits.specs.Byte.{isWaiting}
 use Rattle.chip.specs.Figure4.{isReset}
 use Rattle.chip.specs.Status.{isArmed, isPolled, isRotating, gintActive}
@@ -19,6 +19,7 @@ use Rattle.chain.specs.declared.Event.{Event}
 use Rattle.chain.specs.declared.Event.the-variants.{Command, Data, Status, Read, Line, Enable, Fall, Rise}
 use Rattle.chain.specs.declared.Response.{Response}
 use Rattle.chain.specs.declared.Response.the-variants.{Idle, UnderWay}
+use Rattle.demands.specs.Along.{along}
 
 -- a chip that is armed, in interrupt mode and in rotating priority, and a request on it that is latched and unmasked
 abbrev pub waits : Chip → ℕ → Bool
@@ -85,11 +86,6 @@ reaches i s =
 -- a first pulse that reaches chip i with its in-service register empty
 unfoldable pub isCounted : ℕ → Event → Chain → Bool
 isCounted i e s = isFirstPulse e s && reaches i s && eqb (chipAt s i .isr) 0
-
--- how many events of a list pass a test of the event and the chain just before it
-unfoldable pub along : (Event → Chain → Bool) → Chain → List Event → ℕ
-along test s [] = 0
-along test s (e ∷ es) = digit (test e s) + along test (eventOf e s .chain) es
 
 -- the acknowledges that chip i answers for its other channels, and the first pulses that reach it with ISR empty
 abbrev pub others : ℕ → ℕ → Chain → List Event → ℕ
