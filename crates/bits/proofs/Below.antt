@@ -8,22 +8,6 @@ use native.Mathlib.Nat.{le-of-suc-le-suc, not-suc-le-zero, eq-or-lt-of-le, zero-
 use lib.Dec.{T}
 use Rattle.bits.specs.Below.{digit, howMany, every, first}
 
-left : (a b : Bool) → T (a && b) → T a
-left true b t = tt
-left false b t = t
-
-right : (a b : Bool) → T (a && b) → T b
-right true b t = t
-right false b t = absurd t
-
--- a test that antt computes over all the numbers below n holds at each of them
-pub each : (n : ℕ) (f : ℕ → Bool) → T (every n f) → (k : ℕ) → k < n → T (f k)
-each zero f t k h = absurd (not-suc-le-zero h)
-each (suc n) f t k h =
-    ⊎-elim (λ e. subst (λ (m : ℕ). T (f m)) (sym e) (right (every n f) (f n) t))
-    (λ l. each n f (left (every n f) (f n) t) k l)
-    (eq-or-lt-of-le (le-of-suc-le-suc h))
-
 -- the two parts of an `and`
 pub both-left : (a b : Bool) → a && b ≡ true → a ≡ true
 both-left true b e = refl
@@ -44,6 +28,14 @@ every-each (suc n) f e k h =
     ⊎-elim (λ m. ap f m ∙ both-right (every n f) (f n) e)
     (λ l. every-each n f (both-left (every n f) (f n) e) k l)
     (eq-or-lt-of-le (le-of-suc-le-suc h))
+
+is-true : (b : Bool) → T b → b ≡ true
+is-true true t = refl
+is-true false t = absurd t
+
+-- a test that antt computes over all the numbers below n holds at each of them
+pub each : (n : ℕ) (f : ℕ → Bool) → T (every n f) → (k : ℕ) → k < n → T (f k)
+each n f t k h = subst T (sym (every-each n f (is-true (every n f) t) k h)) tt
 
 pub every-all : (n : ℕ) (f : ℕ → Bool) → ((k : ℕ) → k < n → f k ≡ true) → every n f ≡ true
 every-all zero f e = refl

@@ -112,8 +112,8 @@ fall-kept (UnderWay r) s is high e =
     response-kept s false (UnderWay (oneMore r)) (one-more (s .count) r (under-way-parts s r e is) (next-left s r e high is)) e
 
 -- the end of a pulse: after the last byte the response ends, otherwise a byte is left
-byte-left : (r : Reply) → eqb (r .delivered) (r .length) ≡ false → deliveredSound false r ≡ true → deliveredSound true r ≡ true
-byte-left r more e =
+still-left : (r : Reply) → eqb (r .delivered) (r .length) ≡ false → deliveredSound false r ≡ true → deliveredSound true r ≡ true
+still-left r more e =
     let one : 1 ≤ r .delivered = leb-true 1 (r .delivered) (both-left (leb 1 (r .delivered)) _ e) in
     let most : r .delivered ≤ r .length = leb-true (r .delivered) (r .length) (both-right (leb 1 (r .delivered)) _ e) in
     let other : r .delivered ≡ r .length → ⊥ = eqb-false (r .delivered) (r .length) more in
@@ -129,7 +129,7 @@ after-kept false r s at is low e =
     response-kept s true (s .response)
     (ap (responseSound (s .count) true) is
     ∙ reply-whole (s .count) true r (under-way-parts s r e is)
-    (byte-left r at (ap (λ (iack : Bool). deliveredSound iack r) (sym low) ∙ reply-delivered (s .count) (s .iack) r (under-way s r e is))))
+    (still-left r at (ap (λ (iack : Bool). deliveredSound iack r) (sym low) ∙ reply-delivered (s .count) (s .iack) r (under-way s r e is))))
     e
 
 rise-kept : (response : Response) (s : Chain) → s .response ≡ response → s .iack ≡ false → sound s ≡ true → sound (withIack true (risen response s)) ≡ true

@@ -20,10 +20,14 @@ responseSound count iack Idle = true
 responseSound count iack (UnderWay r) =
     ltb (r .chip) count && leb (r .channel) 7 && leb (r .level) 7 && leb 1 (r .length) && leb (r .length) 4 && deliveredSound iack r
 
+-- a count of 1 to 8
+abbrev pub countSound : ℕ → Bool
+countSound count = leb 1 count && leb count 8
+
 -- each chip in the count
 unfoldable pub chipsSound : Chain → Bool
 chipsSound s = every (s .count) (λ i. chipSound (chipAt s i))
 
 -- count 1 to 8; each chip in the count; and the response
 unfoldable pub sound : Chain → Bool
-sound s = leb 1 (s .count) && leb (s .count) 8 && chipsSound s && responseSound (s .count) (s .iack) (s .response)
+sound s = countSound (s .count) && chipsSound s && responseSound (s .count) (s .iack) (s .response)

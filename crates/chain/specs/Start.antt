@@ -1,11 +1,11 @@
 -- Start (document 01, "A chip"): a chip count and a fill byte.
-use mathlib.Core.Bool.{true, cond, _&&_}
+use mathlib.Core.Bool.{true, cond}
 use Prim.Native.Nat.{ℕ}
-use lib.Dec.{leb}
 use lib.ListN.{replicate}
 use Rattle.chip.specs.Reset.{powerUp}
 use Rattle.refusal.specs.declared.Refusal.the-variants.{NotSound}
 use Rattle.chain.specs.Fields.{zeroChain}
+use Rattle.chain.specs.Sound.{countSound}
 use Rattle.chain.specs.declared.Answer.the-variants.{Done, Refused}
 use Rattle.chain.specs.declared.Chain.{Chain}
 use Rattle.chain.specs.declared.Outcome.{Outcome}
@@ -19,6 +19,6 @@ started count fill =
 -- refused by 1 if the count is outside 1 to 8
 unfoldable pub startOf : ℕ → ℕ → Outcome
 startOf count fill =
-    cond (leb 1 count && leb count 8)
+    cond (countSound count)
     (record { answer = Done; chain = started count fill })
     (record { answer = Refused NotSound; chain = zeroChain })

@@ -77,8 +77,8 @@ impl Chain {
         self.on_sound(e)
     }
 
-    // Any of the eight on a chain that is known to be sound: a run checks that once, and every event keeps it.
-    pub fn on_sound(self, e: Event) -> Outcome
+    // Any of the eight on a chain that is known to be sound.
+    pub(crate) fn on_sound(self, e: Event) -> Outcome
         requires { ⌜ sound self ≡ true ⌝ }
         ensures { λ r. ⌜ r ≡ eventOf e self ⌝ }
     {

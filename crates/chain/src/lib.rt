@@ -1,6 +1,6 @@
 // One to eight chained Am9519A chips: the chain's record, the eight events, and the two views of one state.
 // The records stand here. The public calls are in start.rt, calls.rt (the eight events), views.rt and sound.rt; they take every input. What
-// stands behind them asks for what they have checked: a sound chain, or an event that no refusal meets.
+// stands behind them asks for what they have checked: a sound chain, an event that no refusal meets, an index in range.
 mod calls;
 mod changes;
 mod fields;

@@ -3,10 +3,11 @@ ghost use mathlib.Core.Bool.{true, false};
 ghost use mathlib.Core.Path.{_≡_};
 ghost use Prim.Native.Nat.{_≤_, _<_};
 ghost use lib.Dec.{eqb};
+ghost use Rattle.chip.specs.Acknowledge.{responseByte};
 ghost use Rattle.chip.specs.Sound.{chipSound};
 ghost use Rattle.refusal.specs.declared.Verdict.the-variants.{Accepted};
 ghost use Rattle.chain.specs.Events.{accepted, judged};
-ghost use Rattle.chain.specs.Fields.{oneMore, withIack, withResponse};
+ghost use Rattle.chain.specs.Fields.{chipAt, oneMore, withIack, withResponse};
 ghost use Rattle.chain.specs.Pulse.{answeringChip, replyOf, selected, firstPulse, driven, risenAfter, risen};
 ghost use Rattle.chain.specs.Sound.{sound};
 ghost use Rattle.chain.specs.declared.Answer.the-variants.{Done, Byte};
@@ -80,6 +81,18 @@ impl Chain {
         }
     }
 
+    // The byte that a response drives next, read from its chip's memory now.
+    fn next_byte_of(self, reply: Reply) -> u8
+        requires { ⌜ reply .chip < 8 ⌝ }
+        requires { ⌜ reply .level < 8 ⌝ }
+        requires { ⌜ reply .delivered < 4 ⌝ }
+        ensures { λ r. ⌜ r ≡ responseByte (chipAt self (reply .chip)) (reply .level) (reply .delivered) ⌝ }
+    {
+        let i = reply.chip;
+        let chip = self.chip_at(i);
+        chip.response_byte(reply.level, reply.delivered)
+    }
+
     // The chip that is responding drives the next byte.
     fn next_byte(self, reply: Reply) -> Outcome
         requires { ⌜ reply .chip < 8 ⌝ }
@@ -87,9 +100,7 @@ impl Chain {
         requires { ⌜ reply .delivered < 4 ⌝ }
         ensures { λ r. ⌜ r ≡ accepted (driven (UnderWay reply) self) (withIack false (withResponse (UnderWay (oneMore reply)) self)) ⌝ }
     {
-        let i = reply.chip;
-        let chip = self.chip_at(i);
-        let byte = chip.response_byte(reply.level, reply.delivered);
+        let byte = self.next_byte_of(reply);
         self.driving(reply, byte)
     }
 
@@ -120,9 +131,9 @@ impl Chain {
         requires { ⌜ reply .delivered < 4 ⌝ }
         ensures { λ r. ⌜ r ≡ accepted (driven (UnderWay reply) self) (withIack false (firstPulse (UnderWay reply) self)) ⌝ }
     {
+        let byte = self.next_byte_of(reply);
         let i = reply.chip;
         let chip = self.chip_at(i);
-        let byte = chip.response_byte(reply.level, reply.delivered);
         self.with_chip(i, chip.fall(reply.channel))
             .driving(reply, byte)
     }

@@ -1,10 +1,17 @@
 // Whether a chain's record is sound.
 ghost use mathlib.Core.Path.{_≡_};
 ghost use Prim.Native.Nat.{_≤_};
-ghost use Rattle.chain.specs.Sound.{deliveredSound, responseSound, chipsSound, sound};
+ghost use Rattle.chain.specs.Sound.{deliveredSound, responseSound, countSound, chipsSound, sound};
 use crate::Chain;
 use crate::Reply;
 use crate::Response;
+
+// Whether a chain may have so many chips: 1 to 8.
+pub(crate) fn is_count(count: u8) -> bool
+    ensures { λ r. ⌜ r ≡ countSound count ⌝ }
+{
+    (1 <= count) & (count <= 8)
+}
 
 impl Reply {
     // At least 1 byte delivered, at most the length with IACK low, fewer with IACK high.
@@ -41,10 +48,7 @@ impl Chain {
     pub fn is_sound(self) -> bool
         ensures { λ r. ⌜ r ≡ sound self ⌝ }
     {
-        if self.count < 1 {
-            return false;
-        }
-        if self.count > 8 {
+        if !is_count(self.count) {
             return false;
         }
         let response = self.response;

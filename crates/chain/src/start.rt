@@ -5,6 +5,7 @@ use crate::Answer;
 use crate::Chain;
 use crate::Outcome;
 use crate::Response;
+use crate::sound::is_count;
 use chip::Chip;
 use refusal::Refusal;
 
@@ -13,7 +14,7 @@ impl Chain {
     pub fn start(count: u8, fill: u8) -> Outcome
         ensures { λ r. ⌜ r ≡ startOf count fill ⌝ }
     {
-        if (1 <= count) & (count <= 8) {
+        if is_count(count) {
             Outcome {
                 answer: Answer::Done,
                 chain: Chain::started(count, fill),

@@ -52,7 +52,7 @@ impl Chain {
         ensures { λ r. ⌜ r ≡ tableOf i self ⌝ }
     {
         let chip = self.chip_at(i);
-        let status = chip.status(self.ei(i));
+        let status = self.status_of(i);
         let waiting = chip.waiting();
         Registers {
             event: self.event,

@@ -1,9 +1,10 @@
 // One Am9519A: its record, the commands of Figure 4, and what happens inside a single chip.
-// The records stand here, and what is done with them in a module for each page of specs/. A method that asks for a sound chip, or for a row of
-// Figure 4, is for the chain's events, which have checked that; the chain's public calls ask for nothing.
+// The records stand here, and what is done with them in a module for each page of specs/. A method that asks for a sound chip, a row of
+// Figure 4 or an index in range is for the chain's events, which have checked that; the chain's public calls ask for nothing.
 mod acknowledge;
 mod commands;
 mod data;
+mod fields;
 mod figure_4;
 mod line;
 mod reset;

@@ -9,11 +9,11 @@ use native.Mathlib.Omega.{arith}
 use lib.Dec.{eqb, lit<}
 use lib.ListN.{length, length-set}
 use lib.Seq.{getD-set-other}
-use borrow.Author.Tests.{eqb-true, eqb-false, ne-eqb, ltb-true}
+use borrow.Author.Tests.{eqb-true, eqb-false, eq-eqb, ne-eqb, ltb-true}
 use Rattle.bits.specs.Below.{digit}
 use Rattle.bits.proofs.Below.{both-right, both-not}
-use Rattle.refusal.proofs.Numbers.{not-both}
-use Rattle.refusal.specs.Numbers.{isAccepted}
+use Rattle.refusal.proofs.Numbers.{not-zero, not-both}
+use Rattle.refusal.specs.Numbers.{refusalNumber}
 use Rattle.refusal.specs.declared.Verdict.{Verdict}
 use Rattle.refusal.specs.declared.Verdict.the-variants.{Accepted, Refused}
 use Rattle.chip.specs.declared.Chip.{Chip}
@@ -179,10 +179,12 @@ no-step n a = omega arith
 mod-step : (n a : ℕ) → ((n + 1) % 65536 + a) % 65536 ≡ (n + (1 + a)) % 65536
 mod-step n a = omega arith
 
-number-judged : (v : Verdict) (e : Event) (s : Chain) (a : ℕ) → s .event < 65536 → (judged v e s .chain .event + a) % 65536 ≡ (s .event + (digit (isAccepted v) + a)) % 65536
+number-judged : (v : Verdict) (e : Event) (s : Chain) (a : ℕ) → (judged v e s .chain .event + a) % 65536 ≡ (s .event + (digit (eqb (handed (judged v e s .answer) .number) 0) + a)) % 65536
 unfolding chainFields judged accepted refused counted
-number-judged (Refused why) e s a h = no-step (s .event) a
-number-judged Accepted e s a h = ap (λ (n : ℕ). ((n + 1) % 65536 + a) % 65536) (number-kept e s) ∙ mod-step (s .event) a
+number-judged (Refused why) e s a = rw (ne-eqb (refusalNumber why) 0 (not-zero why)) (no-step (s .event) a)
+number-judged Accepted e s a =
+    rw (eq-eqb (handed (answerOf e s) .number) 0 (answers-zero e s))
+    (ap (λ (n : ℕ). ((n + 1) % 65536 + a) % 65536) (number-kept e s) ∙ mod-step (s .event) a)
 
 number-lt : (v : Verdict) (e : Event) (s : Chain) → s .event < 65536 → judged v e s .chain .event < 65536
 unfolding chainFields judged accepted refused counted
@@ -193,7 +195,7 @@ number : (s : Chain) (es : List Event) → s .event < 65536 → after s es .even
 unfolding after along eventOf
 number s [] h = no-event (s .event) h
 number s (e ∷ es) h =
-    number (eventOf e s .chain) es (number-lt (verdictOf e s) e s h) ∙ number-judged (verdictOf e s) e s (acceptedIn (eventOf e s .chain) es) h
+    number (eventOf e s .chain) es (number-lt (verdictOf e s) e s h) ∙ number-judged (verdictOf e s) e s (acceptedIn (eventOf e s .chain) es)
 
 pub events-keep : Kept
 unfolding eventOf

@@ -2,10 +2,10 @@
 use mathlib.Core.Bool.{Bool}
 use mathlib.Core.List.{List, [], _∷_}
 use Prim.Native.Nat.{ℕ, _+_}
+use lib.Dec.{eqb}
 use Rattle.bits.specs.Below.{digit}
-use Rattle.refusal.specs.Numbers.{isAccepted}
+use Rattle.chain.specs.Answers.{handed}
 use Rattle.chain.specs.Events.{eventOf}
-use Rattle.chain.specs.Refusals.{verdictOf}
 use Rattle.chain.specs.declared.Chain.{Chain}
 use Rattle.chain.specs.declared.Event.{Event}
 
@@ -19,6 +19,10 @@ unfoldable pub along : (Event → Chain → Bool) → Chain → List Event → �
 along test s [] = 0
 along test s (e ∷ es) = digit (test e s) + along test (eventOf e s .chain) es
 
+-- an accepted event hands back the number 0
+abbrev pub accepts : Event → Chain → Bool
+accepts e s = eqb (handed (eventOf e s .answer) .number) 0
+
 -- how many are accepted
 abbrev pub acceptedIn : Chain → List Event → ℕ
-acceptedIn s es = along (λ e s. isAccepted (verdictOf e s)) s es
+acceptedIn s es = along accepts s es

@@ -32,16 +32,16 @@ goes (refused e number) s = hands (handed (eventOf e s .answer)) number 0 0
 goes (shows field value) s = eqb (field s) value
 
 -- the chain that the step leaves
-abbrev pub after : Step → Chain → Chain
-after (accepted e) s = eventOf e s .chain
-after (gives e byte) s = eventOf e s .chain
-after (refused e number) s = eventOf e s .chain
-after (shows field value) s = s
+abbrev pub afterStep : Step → Chain → Chain
+afterStep (accepted e) s = eventOf e s .chain
+afterStep (gives e byte) s = eventOf e s .chain
+afterStep (refused e number) s = eventOf e s .chain
+afterStep (shows field value) s = s
 
 -- every step of the list, one after the other
 unfoldable pub all : List Step → Chain → Bool
 all [] s = true
-all (step ∷ steps) s = goes step s && all steps (after step s)
+all (step ∷ steps) s = goes step s && all steps (afterStep step s)
 
 -- the list on a chain of so many chips with this fill
 abbrev pub onBench : ℕ → ℕ → List Step → Bool

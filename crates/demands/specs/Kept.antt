@@ -36,7 +36,7 @@ pub record Kept : Type 0 where
   -- an event replaces at most one chip, and all others are unchanged
   pub one-at-most : (e : Event) (s : Chain) (j k : ℕ) → replaces e s j ≡ true → replaces e s k ≡ true → j ≡ k
   pub others-unchanged : (e : Event) (s : Chain) (k : ℕ) → replaces e s k ≡ false → chipAt (eventOf e s .chain) k ≡ chipAt s k
-  -- records past the count are never changed, and there are as many records as before
+  -- records past the count are never changed; the count and the number of records stay
   pub past-the-count : (e : Event) (s : Chain) (k : ℕ) → s .count ≤ k → chipAt (eventOf e s .chain) k ≡ chipAt s k
   pub count-kept : (e : Event) (s : Chain) → eventOf e s .chain .count ≡ s .count
   pub records-kept : (e : Event) (s : Chain) → length (eventOf e s .chain .chips) ≡ length (s .chips)

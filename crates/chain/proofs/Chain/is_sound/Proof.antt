@@ -1,29 +1,32 @@
 -- `chain::Chain::is_sound` meets its contract.
 -- Assumes nothing.
+use mathlib.Core.Path.{sym, _∙_}
+use lib.Dec.{leb}
 use borrow.Author.Needs.{needs}
-use borrow.Author.Tests.{le-leb, lt-leb}
+use borrow.Author.Tests.{leb-true, not-true, not-false}
+use Rattle.bits.proofs.Below.{both-right}
 use Rattle.chain.specs.Sound.{sound}
 use Rattle.chain.proofs.Chain.is_sound.Statement.{statement}
 use Rattle.chain.proofs.Chain.is_sound.Tie as tie
 
+is-count-requires : tie.Need-is-count-requires
+is-count-requires c κs = search needs
+
 returns : tie.Need-returns
 unfolding sound
-returns c = simp (lt-leb _ _ (c .if1 .taken))
-
-returns-2 : tie.Need-returns-2
-unfolding sound
-returns-2 c = simp (le-leb _ _ (c .before .before .if1 .left), lt-leb _ _ (c .if2 .taken))
+returns c = simp (← c .before .is-count .ensures, not-true (c .before .is-count .result) (c .if1 .taken))
 
 has-sound-chips-requires : tie.Need-has-sound-chips-requires
-has-sound-chips-requires c κs = search needs
+has-sound-chips-requires c κs = leb-true (c .before .before .args .self .count) 8 (both-right (leb 1 (c .before .before .args .self .count)) _ (sym (c .before .is-count .ensures) ∙ not-false (c .before .is-count .result) (c .if1 .left)))
 
 is-sound-requires : tie.Need-is-sound-requires
 is-sound-requires c κs = search needs
 
-returns-3 : tie.Need-returns-3
+returns-2 : tie.Need-returns-2
 unfolding sound
-returns-3 c = simp (le-leb _ _ (c .before .before .before .before .if1 .left), le-leb _ _ (c .before .before .if2 .left), c .before .has-sound-chips .ensures, c .is-sound .ensures)
+returns-2 c = simp (← c .before .before .before .is-count .ensures, not-false (c .before .before .before .is-count .result) (c .before .before .if1 .left), c .before .has-sound-chips .ensures, c .is-sound .ensures)
 
 pub is-sound-spec : {M : Type 1} → statement M
 is-sound-spec =
-    tie.close (tie.spec returns returns-2 has-sound-chips-requires is-sound-requires returns-3)
+    tie.close
+    (tie.spec is-count-requires returns has-sound-chips-requires is-sound-requires returns-2)

@@ -7,18 +7,14 @@ use Rattle.chain.proofs.Chain.table.Tie as tie
 chip-at-requires : tie.Need-chip-at-requires
 chip-at-requires c κs = search needs
 
-ei-requires : tie.Need-ei-requires
-ei-requires c κs = search needs
-
-status-requires : tie.Need-status-requires
-status-requires c κs = search needs
+status-of-requires : tie.Need-status-of-requires
+status-of-requires c κs = search needs
 
 waiting-requires : tie.Need-waiting-requires
 waiting-requires c κs = search needs
 
 returns : tie.Need-returns
-returns c = simp (c .waiting .ensures, c .before .status .ensures, c .before .before .ei .ensures, c .before .before .before .chip-at .ensures)
+returns c = simp (c .waiting .ensures, c .before .status-of .ensures, c .before .before .chip-at .ensures)
 
 pub table-spec : {M : Type 1} → statement M
-table-spec =
-    tie.close (tie.spec chip-at-requires ei-requires status-requires waiting-requires returns)
+table-spec = tie.close (tie.spec chip-at-requires status-of-requires waiting-requires returns)
