@@ -27,14 +27,12 @@ use Rattle.chip.specs.declared.Meaning.{Meaning}
 use Rattle.chip.specs.declared.Meaning.the-variants.{Row, Undefined}
 use Rattle.chain.specs.Answers.{handed}
 use Rattle.chain.specs.Events.{afterCommand, changed, counted, accepted, refused, judged, eventOf}
-use Rattle.chain.specs.Fields.{chipAt, oneMore, withChip, withEnable, withResponse, withIack, zeroChain}
+use Rattle.chain.specs.Fields.{chipAt, oneMore, withChip, withEnable, withResponse, withIack}
 use Rattle.chain.specs.Pins.{isResponding}
 use Rattle.chain.specs.Pulse.{selected, firstPulse, fallen, risenAfter, risen}
 use Rattle.chain.specs.Refusals.{verdictOf}
-use Rattle.chain.specs.Sound.{deliveredSound, responseSound, chipsSound, sound}
+use Rattle.chain.specs.Sound.{deliveredSound, responseSound, countSound, chipsSound, sound}
 use Rattle.chain.specs.Start.{started, startOf}
-use Rattle.chain.specs.declared.Answer.{Answer}
-use Rattle.chain.specs.declared.Answer.the-variants.{Done}
 use Rattle.chain.specs.declared.Chain.{Chain}
 use Rattle.chain.specs.declared.Event.{Event}
 use Rattle.chain.specs.declared.Event.the-variants.{Command, Data, Status, Read, Line, Enable, Fall, Rise}
@@ -181,7 +179,7 @@ sound-kept e s here = judged-kept (verdictOf e s) e s refl here
 started-chips : (fill i : ℕ) → i < 8 → chipSound (getD (replicate 8 (powerUp fill)) i noChip) ≡ true
 started-chips fill i h = ap chipSound (getD-replicate 8 i (powerUp fill) noChip h) ∙ power-up-sound fill
 
-started-parts : (count fill : ℕ) → leb 1 count && leb count 8 ≡ true → SoundChain (started count fill)
+started-parts : (count fill : ℕ) → countSound count ≡ true → SoundChain (started count fill)
 unfolding started chipsSound
 started-parts count fill within =
     let most : leb count 8 ≡ true = both-right (leb 1 count) (leb count 8) within in
@@ -192,18 +190,18 @@ started-parts count fill within =
       response = refl;
     }
 
-abbrev startIf : Bool → ℕ → ℕ → Outcome
-startIf within count fill =
-    cond within (record { answer = Done; chain = started count fill }) (record { answer = Answer.Refused NotSound; chain = zeroChain })
-
-started-sound : (count fill : ℕ) → leb 1 count && leb count 8 ≡ true → sound (started count fill) ≡ true
+started-sound : (count fill : ℕ) → countSound count ≡ true → sound (started count fill) ≡ true
 started-sound count fill within =
     whole (started count fill) (started-parts count fill within)
 
-start-if : (within : Bool) (count fill : ℕ) → leb 1 count && leb count 8 ≡ within → handed (startIf within count fill .answer) .number ≡ 0 → sound (startIf within count fill .chain) ≡ true
-start-if true count fill is ok = started-sound count fill is
-start-if false count fill is ok = absurd (not-zero NotSound ok)
+-- what holds of both outcomes of a test holds of the one that it picks
+either : (P : Outcome → Type 0) (b : Bool) (x y : Outcome) → (b ≡ true → P x) → (b ≡ false → P y) → P (cond b x y)
+either P true x y holds fails = holds refl
+either P false x y holds fails = fails refl
 
 pub start-sound : (count fill : ℕ) → handed (startOf count fill .answer) .number ≡ 0 → sound (startOf count fill .chain) ≡ true
 unfolding startOf
-start-sound count fill ok = start-if (leb 1 count && leb count 8) count fill refl ok
+start-sound count fill =
+    either (λ (o : Outcome). handed (o .answer) .number ≡ 0 → sound (o .chain) ≡ true) (countSound count) _ _
+    (λ within ok. started-sound count fill within)
+    (λ outside ok. absurd (not-zero NotSound ok))

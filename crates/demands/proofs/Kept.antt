@@ -13,7 +13,7 @@ use borrow.Author.Tests.{eqb-true, eqb-false, eq-eqb, ne-eqb, ltb-true}
 use Rattle.bits.specs.Below.{digit}
 use Rattle.bits.proofs.Below.{both-right, both-not}
 use Rattle.refusal.proofs.Numbers.{not-zero, not-both}
-use Rattle.refusal.specs.Numbers.{refusalNumber}
+use Rattle.refusal.specs.Numbers.{refusalNumber, isAccepted}
 use Rattle.refusal.specs.declared.Verdict.{Verdict}
 use Rattle.refusal.specs.declared.Verdict.the-variants.{Accepted, Refused}
 use Rattle.chip.specs.declared.Chip.{Chip}
@@ -179,12 +179,15 @@ no-step n a = omega arith
 mod-step : (n a : ℕ) → ((n + 1) % 65536 + a) % 65536 ≡ (n + (1 + a)) % 65536
 mod-step n a = omega arith
 
-number-judged : (v : Verdict) (e : Event) (s : Chain) (a : ℕ) → (judged v e s .chain .event + a) % 65536 ≡ (s .event + (digit (eqb (handed (judged v e s .answer) .number) 0) + a)) % 65536
+zero-judged : (v : Verdict) (e : Event) (s : Chain) → eqb (handed (judged v e s .answer) .number) 0 ≡ isAccepted v
+unfolding judged accepted refused
+zero-judged (Refused why) e s = ne-eqb (refusalNumber why) 0 (not-zero why)
+zero-judged Accepted e s = eq-eqb (handed (answerOf e s) .number) 0 (answers-zero e s)
+
+number-judged : (v : Verdict) (e : Event) (s : Chain) (a : ℕ) → (judged v e s .chain .event + a) % 65536 ≡ (s .event + (digit (isAccepted v) + a)) % 65536
 unfolding chainFields judged accepted refused counted
-number-judged (Refused why) e s a = rw (ne-eqb (refusalNumber why) 0 (not-zero why)) (no-step (s .event) a)
-number-judged Accepted e s a =
-    rw (eq-eqb (handed (answerOf e s) .number) 0 (answers-zero e s))
-    (ap (λ (n : ℕ). ((n + 1) % 65536 + a) % 65536) (number-kept e s) ∙ mod-step (s .event) a)
+number-judged (Refused why) e s a = no-step (s .event) a
+number-judged Accepted e s a = ap (λ (n : ℕ). ((n + 1) % 65536 + a) % 65536) (number-kept e s) ∙ mod-step (s .event) a
 
 number-lt : (v : Verdict) (e : Event) (s : Chain) → s .event < 65536 → judged v e s .chain .event < 65536
 unfolding chainFields judged accepted refused counted
@@ -195,7 +198,9 @@ number : (s : Chain) (es : List Event) → s .event < 65536 → after s es .even
 unfolding after along eventOf
 number s [] h = no-event (s .event) h
 number s (e ∷ es) h =
-    number (eventOf e s .chain) es (number-lt (verdictOf e s) e s h) ∙ number-judged (verdictOf e s) e s (acceptedIn (eventOf e s .chain) es)
+    number (eventOf e s .chain) es (number-lt (verdictOf e s) e s h)
+    ∙ number-judged (verdictOf e s) e s (acceptedIn (eventOf e s .chain) es)
+    ∙ ap (λ (b : Bool). (s .event + (digit b + acceptedIn (eventOf e s .chain) es)) % 65536) (sym (zero-judged (verdictOf e s) e s))
 
 pub events-keep : Kept
 unfolding eventOf
@@ -208,6 +213,7 @@ events-keep =
       past-the-count = λ e s k l. judged-past (verdictOf e s) e s k refl l;
       count-kept = λ e s. beside e s .count;
       records-kept = λ e s. beside e s .records;
+      zero-is-accepted = λ e s. zero-judged (verdictOf e s) e s;
       number-counts = number;
       refused-as-given = λ e s other. as-given (verdictOf e s) e s other;
     }

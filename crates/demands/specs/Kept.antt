@@ -6,17 +6,19 @@ use mathlib.Core.Path.{_≡_}
 use Prim.Native.Nat.{ℕ, _+_, _%_, _≤_, _<_}
 use lib.Dec.{eqb}
 use lib.ListN.{length}
+use Rattle.refusal.specs.Numbers.{isAccepted}
 use Rattle.chain.specs.Answers.{handed}
 use Rattle.chain.specs.Events.{eventOf}
 use Rattle.chain.specs.Fields.{chipAt}
 use Rattle.chain.specs.Pins.{isIdle, isResponding}
 use Rattle.chain.specs.Pulse.{selected}
+use Rattle.chain.specs.Refusals.{verdictOf}
 use Rattle.chain.specs.Sound.{sound}
 use Rattle.chain.specs.Start.{startOf}
 use Rattle.chain.specs.declared.Chain.{Chain}
 use Rattle.chain.specs.declared.Event.{Event}
 use Rattle.chain.specs.declared.Event.the-variants.{Command, Data, Status, Read, Line, Enable, Fall, Rise}
-use Rattle.demands.specs.Along.{after, acceptedIn}
+use Rattle.demands.specs.Along.{after, accepts, acceptedIn}
 
 -- chip k is the one that an event may replace: the chip that it names, or that a first pulse selects, or whose response a rise may end
 abbrev pub replaces : Event → Chain → ℕ → Bool
@@ -42,5 +44,7 @@ pub record Kept : Type 0 where
   pub records-kept : (e : Event) (s : Chain) → length (eventOf e s .chain .chips) ≡ length (s .chips)
   -- a refused event hands back the chain as given
   pub refused-as-given : (e : Event) (s : Chain) → (handed (eventOf e s .answer) .number ≡ 0 → ⊥) → eventOf e s .chain ≡ s
+  -- the number 0 is handed back exactly where the verdict is accepted
+  pub zero-is-accepted : (e : Event) (s : Chain) → accepts e s ≡ isAccepted (verdictOf e s)
   -- the event number is the number before plus the accepted events, modulo 65,536
   pub number-counts : (s : Chain) (es : List Event) → s .event < 65536 → after s es .event ≡ (s .event + acceptedIn s es) % 65536
