@@ -78,7 +78,7 @@ impl Chain {
     }
 
     // Any of the eight on a chain that is known to be sound.
-    pub(crate) fn on_sound(self, e: Event) -> Outcome
+    pub fn on_sound(self, e: Event) -> Outcome
         requires { ⌜ sound self ≡ true ⌝ }
         ensures { λ r. ⌜ r ≡ eventOf e self ⌝ }
     {

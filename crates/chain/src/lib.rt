@@ -1,6 +1,7 @@
 // One to eight chained Am9519A chips: the chain's record, the eight events, and the two views of one state.
 // The records stand here. The public calls are in start.rt, calls.rt (the eight events), views.rt and sound.rt; they take every input. What
 // stands behind them asks for what they have checked: a sound chain, an event that no refusal meets, an index in range.
+mod answers;
 mod calls;
 mod changes;
 mod fields;

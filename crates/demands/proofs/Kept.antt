@@ -170,7 +170,7 @@ as-given (Refused why) e s other = refl
 as-given Accepted e s other = absurd (other (answers-zero e s))
 
 -- the event number along a list
-no-event : (n : ℕ) → n < 65536 → n ≡ (n + 0) % 65536
+pub no-event : (n : ℕ) → n < 65536 → n ≡ (n + 0) % 65536
 no-event n h = omega arith
 
 no-step : (n a : ℕ) → (n + a) % 65536 ≡ (n + (0 + a)) % 65536

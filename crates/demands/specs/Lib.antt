@@ -4,5 +4,6 @@ pub mod Cases
 pub mod Corners
 pub mod Kept
 pub mod Misread
+pub mod Runs
 pub mod Wait
 pub mod Worked

@@ -1,2 +1,4 @@
+pub mod Before
 pub mod Count
+pub mod Steps
 pub mod Tried

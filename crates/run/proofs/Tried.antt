@@ -8,7 +8,7 @@ use Rattle.chain.specs.Fields.{zeroChain}
 use Rattle.chain.specs.Start.{startOf}
 use Rattle.chain.proofs.Rules.{rules}
 use Rattle.run.specs.List.{listedAt}
-use Rattle.run.specs.Run.{Report, runFrom, runUnless, runOf}
+use Rattle.run.specs.Run.{Report, runFrom, beforeAny, runOf}
 
 -- arm, status, a fall that stalls, and the fall again; the unused bytes are 9
 unfoldable pub events : List ℕ
@@ -28,7 +28,7 @@ first-refusal :
     (numberOf (on 100) ≡ 6)
     × (on 100 .ran .accepted ≡ 3)
     × (on 100 .results ≡ 0 ∷ 0 ∷ 1 ∷ 0x48 ∷ 0 ∷ 0 ∷ 0xEE ∷ 0xEE ∷ 0xEE ∷ [])
-unfolding rules events buffer listedAt runFrom runUnless runOf
+unfolding rules events buffer listedAt runFrom beforeAny runOf
 first-refusal = (refl, refl, refl)
 
 -- the limit stops it with 0
@@ -36,7 +36,7 @@ limited :
     (numberOf (on 2) ≡ 0)
     × (on 2 .ran .accepted ≡ 2)
     × (on 2 .results ≡ 0 ∷ 0 ∷ 1 ∷ 0x48 ∷ 0xEE ∷ 0xEE ∷ 0xEE ∷ 0xEE ∷ 0xEE ∷ [])
-unfolding rules events buffer listedAt runFrom runUnless runOf
+unfolding rules events buffer listedAt runFrom beforeAny runOf
 limited = (refl, refl, refl)
 
 abbrev oneChip : List ℕ → ℕ → List ℕ → ℕ
@@ -47,9 +47,9 @@ before :
     (numberOf (runOf zeroChain (7 ∷ []) 0 []) ≡ 1)
     × (oneChip (7 ∷ 0 ∷ 0 ∷ []) 0 [] ≡ 10)
     × (oneChip (7 ∷ 0 ∷ 0 ∷ 0 ∷ []) 0 (0 ∷ []) ≡ 11)
-unfolding rules runUnless runOf
+unfolding rules beforeAny runOf
 before = (refl, refl, refl)
 
 unknown-kind : oneChip (9 ∷ 0 ∷ 0 ∷ 0 ∷ []) 1 buffer ≡ 12
-unfolding rules buffer listedAt runFrom runUnless runOf
+unfolding rules buffer listedAt runFrom beforeAny runOf
 unknown-kind = refl

@@ -1,19 +1,18 @@
 -- A run (document 01, "Views and runs"): it stops at the limit, the end or the first refusal, and keeps what it accepted.
-use mathlib.Core.Bool.{Bool, not}
+use mathlib.Core.Bool.{Bool, not, cond}
 use mathlib.Core.List.{List, [], _∷_}
 use Prim.Native.Nat.{ℕ, zero, suc, _+_, _*_, _/_, _%_, min}
 use lib.Dec.{eqb, ltb}
 use lib.ListN.{length, set}
-use Rattle.refusal.specs.Numbers.{firstOf}
+use Rattle.refusal.specs.Numbers.{isAccepted, firstOf}
 use Rattle.refusal.specs.declared.Refusal.{Refusal}
 use Rattle.refusal.specs.declared.Refusal.the-variants.{BrokenEvent, ShortResults, UnknownKind}
 use Rattle.refusal.specs.declared.Verdict.{Verdict}
 use Rattle.refusal.specs.declared.Verdict.the-variants.{Accepted}
-use Rattle.chain.specs.Answers.{Handed, handed}
+use Rattle.chain.specs.Answers.{verdictIn, Handed, handed}
 use Rattle.chain.specs.Events.{eventOf}
 use Rattle.chain.specs.Refusals.{notSound}
 use Rattle.chain.specs.declared.Answer.{Answer}
-use Rattle.chain.specs.declared.Answer.the-variants.{Done, Byte}
 use Rattle.chain.specs.declared.Chain.{Chain}
 use Rattle.chain.specs.declared.Outcome.{Outcome}
 use Rattle.run.specs.List.{listedAt}
@@ -31,12 +30,16 @@ abbrev pub listLength : List ℕ → ℕ
 listLength bytes = length bytes / 4
 
 -- 10: event bytes not a multiple of four
-abbrev pub brokenEvent : List ℕ → Bool × Refusal
-brokenEvent bytes = (not (eqb (length bytes % 4) 0), BrokenEvent)
+abbrev pub brokenEvent : ℕ → Bool × Refusal
+brokenEvent bytes = (not (eqb (bytes % 4) 0), BrokenEvent)
 
--- 11: result buffer under two bytes per listed event, whatever the limit
-abbrev pub shortResults : List ℕ → List ℕ → Bool × Refusal
-shortResults bytes results = (ltb (length results) (2 * listLength bytes), ShortResults)
+-- 11: result buffer under two bytes per listed event
+abbrev pub shortResults : ℕ → ℕ → Bool × Refusal
+shortResults listed room = (ltb room (2 * listed), ShortResults)
+
+-- what a run takes before any event, of a list of so many bytes and events, and so much room for results
+unfoldable pub beforeAny : Chain → ℕ → ℕ → ℕ → Verdict
+beforeAny s bytes listed room = firstOf (notSound s ∷ brokenEvent bytes ∷ shortResults listed room ∷ [])
 
 -- a listed event: 12, kind outside 1 to 8, before the event's own refusals
 abbrev pub stepOf : Listed → Chain → Outcome
@@ -47,34 +50,27 @@ stepOf Unknown s = record { answer = Answer.Refused UnknownKind; chain = s }
 abbrev pub noted : ℕ → Handed → List ℕ → List ℕ
 noted n h results = set (set results (2 * n) (h .drove)) (2 * n + 1) (h .byte)
 
--- after an accepted event the run goes on; at a refusal it stops
-abbrev pub goOn : {A : Type 0} → Answer → (Refusal → A) → A → A
-goOn Done stop on = on
-goOn (Byte b) stop on = on
-goOn (Answer.Refused why) stop on = stop why
-
 abbrev pub stopped : Verdict → ℕ → Chain → List ℕ → Report
 stopped verdict n s results = record { ran = record { verdict = verdict; accepted = n; chain = s }; results = results }
 
--- from the n-th event on, with so many left before the limit or the end
+-- from the n-th event on, with so many left before the limit or the end: after an accepted event the run goes on, at a refusal it stops
 unfoldable pub runFrom : ℕ → List ℕ → ℕ → Chain → List ℕ → Report
 runFrom zero bytes n s results = stopped Accepted n s results
 runFrom (suc left) bytes n s results =
     let o : Outcome = stepOf (listedAt bytes n) s in
-    goOn (o .answer) (λ why. stopped (Verdict.Refused why) n s results)
+    cond (isAccepted (verdictIn (o .answer)))
     (runFrom left bytes (n + 1) (o .chain) (noted n (handed (o .answer)) results))
+    (stopped (verdictIn (o .answer)) n s results)
 
 -- how many events are accepted before the limit, the end or the first refusal
 unfoldable pub acceptedFrom : ℕ → List ℕ → ℕ → Chain → ℕ
 acceptedFrom zero bytes n s = 0
 acceptedFrom (suc left) bytes n s =
     let o : Outcome = stepOf (listedAt bytes n) s in
-    goOn (o .answer) (λ why. 0) (acceptedFrom left bytes (n + 1) (o .chain) + 1)
+    cond (isAccepted (verdictIn (o .answer))) (acceptedFrom left bytes (n + 1) (o .chain) + 1) 0
 
--- the run: 1, 10 and 11 before any event
-unfoldable pub runUnless : Verdict → Chain → List ℕ → ℕ → List ℕ → Report
-runUnless (Verdict.Refused why) s bytes limit results = stopped (Verdict.Refused why) 0 s results
-runUnless Accepted s bytes limit results = runFrom (min limit (listLength bytes)) bytes 0 s results
-
+-- the run: 1, 10 and 11 before any event, and 11 whatever the limit
 unfoldable pub runOf : Chain → List ℕ → ℕ → List ℕ → Report
-runOf s bytes limit results = runUnless (firstOf (notSound s ∷ brokenEvent bytes ∷ shortResults bytes results ∷ [])) s bytes limit results
+runOf s bytes limit results =
+    let v : Verdict = beforeAny s (length bytes) (listLength bytes) (length results) in
+    cond (isAccepted v) (runFrom (min limit (listLength bytes)) bytes 0 s results) (stopped v 0 s results)

@@ -1,4 +1,13 @@
 // Runs: lists of events as lent bytes, applied to one chain up to a limit, the end or the first refusal.
+// The records and the public call, `run`, stand here. What stands behind it asks for what it has checked.
+mod events;
+mod list;
+
+ghost use mathlib.Core.Path.{_≡_};
+ghost use Rattle.run.specs.Run.{runOf};
+use crate::events::before_any;
+use crate::events::least;
+use crate::events::perform;
 use chain::Chain;
 use chain::Event;
 use refusal::Verdict;
@@ -14,4 +23,22 @@ pub struct Ran {
     pub verdict: Verdict,
     pub accepted: usize,
     pub chain: Chain,
+}
+
+// A run over a list of bytes, four an event, up to a limit of events. The lent results get two bytes per accepted event.
+pub fn run(chain: Chain, bytes: &[u8], limit: usize, results: &mut [u8]) -> Ran
+    ensures { λ r. ⌜ r ≡ runOf chain (now (bytes .entry)) limit (now (results .entry)) .ran ⌝ }
+    ensures { λ _. ⌜ now (results .exit) ≡ runOf chain (now (bytes .entry)) limit (now (results .entry)) .results ⌝ }
+{
+    let listed = bytes.len() / 4;
+    let count = least(limit, listed);
+    let verdict = before_any(chain, bytes.len(), listed, results.len());
+    if !verdict.is_accepted() {
+        return Ran {
+            verdict: verdict,
+            accepted: 0,
+            chain: chain,
+        };
+    }
+    perform(chain, bytes, count, results)
 }

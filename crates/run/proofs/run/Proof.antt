@@ -1,0 +1,56 @@
+-- `run::run` meets its contract.
+-- Assumes nothing.
+use mathlib.Core.Bool.{true}
+use mathlib.Core.Path.{_≡_, _∙_, ap, sym}
+use Prim.Native.Nat.{_/_}
+use native.Mathlib.Omega.{arith}
+use lib.ListN.{length}
+use borrow.Author.Needs.{needs}
+use borrow.Author.Tests.{not-false, not-true}
+use Rattle.chain.proofs.Soundness.{whole}
+use Rattle.refusal.specs.Numbers.{isAccepted}
+use Rattle.run.proofs.Before.{before-sound, before-room, none-before, refused-before}
+use Rattle.run.specs.Run.{runOf, beforeAny, runFrom, stopped}
+use Rattle.run.proofs.run.Statement.{statement}
+use Rattle.run.proofs.run.Tie as tie
+
+least-requires : tie.Need-least-requires
+least-requires c κs = search needs
+
+before-any-requires : tie.Need-before-any-requires
+before-any-requires c κs = omega (arith, c .least .ensures)
+
+is-accepted-requires : tie.Need-is-accepted-requires
+is-accepted-requires c κs = search needs
+
+returns : tie.Need-returns
+returns c =
+    let whole : runOf (c .before .before .before .before .before .before .args .chain) (c .before .before .before .before .before .before .args .bytes .now) (c .before .before .before .before .before .before .args .limit) (c .before .before .before .before .before .before .args .results .now) ≡ stopped (c .before .before .before-any .result) 0 (c .before .before .before .before .before .before .args .chain) (c .before .before .before .before .before .before .args .results .now) = refused-before (c .before .before .before .before .before .before .args .chain) (c .before .before .before .before .before .before .args .bytes .now) (c .before .before .before .before .before .before .args .limit) (c .before .before .before .before .before .before .args .results .now) (c .before .before .before-any .result) (c .before .before .before-any .ensures) (sym (c .before .is-accepted .ensures) ∙ not-true (c .before .is-accepted .result) (c .if1 .taken)) in
+    (sym (ap (λ r. r .ran) whole), sym (ap (λ r. r .results) whole))
+
+perform-requires : tie.Need-perform-requires
+perform-requires c κs =
+    let passed : isAccepted (beforeAny (c .before .before .before .before .before .before .before .args .chain) (length (c .before .before .before .before .before .before .before .args .bytes .now)) (length (c .before .before .before .before .before .before .before .args .bytes .now) / 4) (length (c .before .before .before .before .before .before .before .args .results .now))) ≡ true = ap isAccepted (sym (c .before .before .before .before-any .ensures)) ∙ sym (c .before .before .is-accepted .ensures) ∙ not-false _ (c .before .if1 .left) in (
+      before-sound _ _ _ _ passed,
+      (omega (arith, c .before .before .before .before .least .ensures), omega (arith, c .before .before .before .before .least .ensures, before-room _ _ _ _ passed)),
+    )
+
+same-length : tie.Need-same-length
+same-length c = search needs
+
+returns-2 : tie.Need-returns-2
+returns-2 c =
+    let whole : runOf (c .before .before .before .before .before .before .before .before .before .before .args .chain) (c .before .before .before .before .before .before .before .before .before .before .args .bytes .now) (c .before .before .before .before .before .before .before .before .before .before .args .limit) (c .before .before .before .before .before .before .before .before .before .before .args .results .now) ≡ runFrom (c .before .before .before .before .before .before .before .least .result) (c .before .before .before .before .before .before .before .before .before .before .args .bytes .now) 0 (c .before .before .before .before .before .before .before .before .before .before .args .chain) (c .before .before .before .before .before .before .before .before .before .before .args .results .now) = none-before (c .before .before .before .before .before .before .before .before .before .before .args .chain) (c .before .before .before .before .before .before .before .before .before .before .args .bytes .now) (c .before .before .before .before .before .before .before .before .before .before .args .limit) (c .before .before .before .before .before .before .before .before .before .before .args .results .now) (c .before .before .before .before .before .before .before-any .result) (c .before .before .before .before .before .before .before-any .ensures) (sym (c .before .before .before .before .before .is-accepted .ensures) ∙ not-false (c .before .before .before .before .before .is-accepted .result) (c .before .before .before .before .if1 .left)) ∙ ap (λ count. runFrom count (c .before .before .before .before .before .before .before .before .before .before .args .bytes .now) 0 (c .before .before .before .before .before .before .before .before .before .before .args .chain) (c .before .before .before .before .before .before .before .before .before .before .args .results .now)) (sym (c .before .before .before .before .before .before .before .least .ensures)) in
+    (c .before .before .perform .ensures .0 ∙ sym (ap (λ r. r .ran) whole), c .before .before .perform .ensures .1 ∙ sym (ap (λ r. r .results) whole))
+
+pub run-spec : {M : Type 1} → statement M
+run-spec =
+    tie.close
+    (tie.spec
+    least-requires
+    before-any-requires
+    is-accepted-requires
+    returns
+    perform-requires
+    same-length
+    returns-2)
