@@ -3,6 +3,7 @@
 use mathlib.Core.List.{List, [], _∷_}
 use mathlib.Core.Path.{_≡_, refl}
 use Prim.Native.Nat.{ℕ}
+use lib.ListN.{take}
 use Rattle.refusal.specs.Numbers.{verdictNumber}
 use Rattle.chain.specs.Fields.{zeroChain}
 use Rattle.chain.specs.Start.{startOf}
@@ -31,13 +32,29 @@ first-refusal :
 unfolding rules events buffer listedAt runFrom beforeAny runOf
 first-refusal = (refl, refl, refl)
 
--- the limit stops it with 0
+-- the limit stops it with 0; a limit of 0 stops it before any event, and the buffer stays
 limited :
     (numberOf (on 2) ≡ 0)
     × (on 2 .ran .accepted ≡ 2)
     × (on 2 .results ≡ 0 ∷ 0 ∷ 1 ∷ 0x48 ∷ 0xEE ∷ 0xEE ∷ 0xEE ∷ 0xEE ∷ 0xEE ∷ [])
 unfolding rules events buffer listedAt runFrom beforeAny runOf
 limited = (refl, refl, refl)
+
+none : (numberOf (on 0) ≡ 0) × (on 0 .ran .accepted ≡ 0) × (on 0 .ran .chain ≡ startOf 1 0 .chain) × (on 0 .results ≡ buffer)
+unfolding rules events buffer listedAt runFrom beforeAny runOf
+none = (refl, refl, refl, refl)
+
+-- three events and room for just these: with the limit at the list and above it the end stops the run with 0
+abbrev three : ℕ → Report
+three limit = runOf (startOf 1 0 .chain) (take 12 events) limit (take 6 buffer)
+
+ended :
+    (numberOf (three 3) ≡ 0)
+    × (three 3 .ran .accepted ≡ 3)
+    × (three 3 .results ≡ 0 ∷ 0 ∷ 1 ∷ 0x48 ∷ 0 ∷ 0 ∷ [])
+    × (three 4 ≡ three 3)
+unfolding rules events buffer listedAt runFrom beforeAny runOf
+ended = (refl, refl, refl, refl)
 
 abbrev oneChip : List ℕ → ℕ → List ℕ → ℕ
 oneChip bytes limit results = numberOf (runOf (startOf 1 0 .chain) bytes limit results)
