@@ -8,7 +8,7 @@ use Rattle.refusal.specs.Numbers.{isAccepted}
 use Rattle.refusal.specs.declared.Verdict.{Verdict}
 use Rattle.chain.specs.Sound.{sound}
 use Rattle.chain.specs.declared.Chain.{Chain}
-use Rattle.run.specs.Run.{Report, listLength, beforeAny, acceptedFrom, runOf}
+use Rattle.run.specs.Run.{listLength, beforeAny, acceptedFrom, runOf}
 
 -- what the run takes before any event
 abbrev pub before : Chain → List ℕ → List ℕ → Verdict

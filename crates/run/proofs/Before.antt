@@ -8,7 +8,7 @@ use lib.Dec.{eqb, ltb}
 use lib.ListN.{length}
 use borrow.Author.Tests.{not-false, ltb-false}
 use Rattle.refusal.proofs.Numbers.{passed-first, passed-rest, accepted-is}
-use Rattle.refusal.specs.Numbers.{isAccepted, firstOf}
+use Rattle.refusal.specs.Numbers.{isAccepted}
 use Rattle.refusal.specs.declared.Refusal.the-variants.{NotSound, BrokenEvent, ShortResults}
 use Rattle.refusal.specs.declared.Verdict.{Verdict}
 use Rattle.chain.specs.Sound.{sound}

@@ -1,18 +1,21 @@
 -- One event of a run: with at least one left it goes on after an accepted event and stops at a refusal, and a sound chain stays sound.
+-- And so what holds of a run of any length.
 -- Assumes nothing.
-use mathlib.Core.Bool.{true, false}
+use mathlib.Core.Bool.{Bool, true, false, cond}
 use mathlib.Core.List.{List}
-use mathlib.Core.Path.{_≡_, _∙_}
-use Prim.Native.Nat.{ℕ, suc, _+_, _*_}
+use mathlib.Core.Path.{_≡_, refl, _∙_}
+use Prim.Native.Nat.{ℕ, zero, suc, _+_, _*_}
 use lib.ListN.{length, set, length-set}
 use Rattle.refusal.specs.Numbers.{isAccepted}
+use Rattle.refusal.specs.declared.Verdict.{Verdict}
+use Rattle.refusal.specs.declared.Verdict.the-variants.{Accepted}
 use Rattle.chain.proofs.Kept.{sound-kept}
 use Rattle.chain.specs.Answers.{verdictIn, Handed, handed}
 use Rattle.chain.specs.Sound.{sound}
 use Rattle.chain.specs.declared.Chain.{Chain}
 use Rattle.chain.specs.declared.Outcome.{Outcome}
 use Rattle.run.specs.List.{listedAt}
-use Rattle.run.specs.Run.{stepOf, noted, stopped, runFrom}
+use Rattle.run.specs.Run.{Report, stepOf, noted, stopped, runFrom, acceptedFrom}
 use Rattle.run.specs.declared.Listed.{Listed}
 use Rattle.run.specs.declared.Listed.the-variants.{Known, Unknown}
 
@@ -37,3 +40,28 @@ step-sound Unknown s h = h
 -- the results keep their length
 pub noted-length : (n : ℕ) (h : Handed) (results : List ℕ) → length (noted n h results) ≡ length results
 noted-length n h results = length-set (set results (2 * n) (h .drove)) (2 * n + 1) (h .byte) ∙ length-set results (2 * n) (h .drove)
+
+-- What holds where a run stops, none more accepted, and before an accepted event if after it, holds of the run: from the n-th event on, of the chain and
+-- results there, the report, and how many it accepts.
+abbrev pub OfRun : Type 1
+OfRun = ℕ → Chain → List ℕ → Report → ℕ → Type 0
+
+either : (P : Report → ℕ → Type 0) (goes : Bool) (rest stop : Report) (k : ℕ) → (goes ≡ true → P rest (k + 1)) → P stop 0 → P (cond goes rest stop) (cond goes (k + 1) 0)
+either P true rest stop k on off = on refl
+either P false rest stop k on off = off
+
+pub run-through : (P : OfRun)
+    → ((n : ℕ) (s : Chain) (results : List ℕ) (v : Verdict) → P n s results (stopped v n s results) 0)
+    → ((n : ℕ) (s : Chain) (results : List ℕ) (l : Listed) (r : Report) (k : ℕ) → isAccepted (verdictIn (stepOf l s .answer)) ≡ true
+    → P (n + 1) (stepOf l s .chain) (noted n (handed (stepOf l s .answer)) results) r k
+    → P n s results r (k + 1))
+    → (left : ℕ) (bytes : List ℕ) (n : ℕ) (s : Chain) (results : List ℕ) → P n s results (runFrom left bytes n s results) (acceptedFrom left bytes n s)
+unfolding runFrom acceptedFrom
+run-through P stop step zero bytes n s results = stop n s results Accepted
+run-through P stop step (suc left) bytes n s results =
+    let o : Outcome = stepOf (listedAt bytes n) s in
+    let rest : Report = runFrom left bytes (n + 1) (o .chain) (noted n (handed (o .answer)) results) in
+    let more : ℕ = acceptedFrom left bytes (n + 1) (o .chain) in
+    either (P n s results) (isAccepted (verdictIn (o .answer))) rest (stopped (verdictIn (o .answer)) n s results) more
+    (λ on. step n s results (listedAt bytes n) rest more on (run-through P stop step left bytes (n + 1) (o .chain) (noted n (handed (o .answer)) results)))
+    (stop n s results (verdictIn (o .answer)))

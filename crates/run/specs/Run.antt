@@ -50,6 +50,7 @@ stepOf Unknown s = record { answer = Answer.Refused UnknownKind; chain = s }
 abbrev pub noted : ℕ → Handed → List ℕ → List ℕ
 noted n h results = set (set results (2 * n) (h .drove)) (2 * n + 1) (h .byte)
 
+-- what is handed back where a run stops, n events accepted
 abbrev pub stopped : Verdict → ℕ → Chain → List ℕ → Report
 stopped verdict n s results = record { ran = record { verdict = verdict; accepted = n; chain = s }; results = results }
 

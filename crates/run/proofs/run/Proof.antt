@@ -7,7 +7,6 @@ use native.Mathlib.Omega.{arith}
 use lib.ListN.{length}
 use borrow.Author.Needs.{needs}
 use borrow.Author.Tests.{not-false, not-true}
-use Rattle.chain.proofs.Soundness.{whole}
 use Rattle.refusal.specs.Numbers.{isAccepted}
 use Rattle.run.proofs.Before.{before-sound, before-room, none-before, refused-before}
 use Rattle.run.specs.Run.{runOf, beforeAny, runFrom, stopped}

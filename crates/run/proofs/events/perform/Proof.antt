@@ -8,13 +8,12 @@ use native.Mathlib.Omega.{arith}
 use lib.ListN.{length}
 use borrow.Author.Needs.{needs}
 use borrow.Author.Tests.{not-false, not-true}
-use Rattle.chain.proofs.Soundness.{whole}
 use Rattle.chain.specs.Answers.{handed}
 use Rattle.chain.specs.Sound.{sound}
 use Rattle.refusal.specs.Numbers.{isAccepted}
 use Rattle.refusal.specs.declared.Verdict.{Verdict}
 use Rattle.run.proofs.Steps.{goes-on, stops, step-sound, noted-length}
-use Rattle.run.specs.List.{listedAt, listed}
+use Rattle.run.specs.List.{listedAt}
 use Rattle.run.specs.Run.{runFrom, stepOf, stopped}
 use Rattle.run.proofs.events.perform.Statement.{statement}
 use Rattle.run.proofs.events.perform.Tie as tie
