@@ -19,27 +19,32 @@ extern "C" {
 #endif
 
 /* What am9519a_candidate hands back besides a channel. */
-#define AM9519A_NO_POINTER 254   /* the pointer is above 7: refusal 1 of the table of numbers */
-#define AM9519A_NO_CANDIDATE 255 /* nothing that the chip could answer */
+#define AM9519A_POINTER_ABOVE_7 254
+#define AM9519A_NO_CANDIDATE 255
 
 /*
  * The candidate of a chip: the channel that it would answer next.
  *
- *   irr      interrupt request register, bit k is channel k
- *   imr      interrupt mask register, a one masks the channel
- *   isr      in-service register
- *   mode     mode register: M7 (bit 7) set is armed, M0 (bit 0) set is rotating priority; the other bits do not matter here
- *   pointer  the channel answered last, 0 to 7
+ *   irr      requests: bit k is one if channel k has a request latched
+ *   imr      mask: bit k is one if channel k is masked
+ *   isr      in service: bit k is one if channel k has been answered and its service is not over
+ *   mode     the mode register. Bit 7 (M7) is one if the chip is armed, bit 0 (M0) if its priority rotates; the other bits are not looked at
+ *   pointer  the channel that was answered last, 0 to 7
  *
- * The first channel, in priority order, that is set in irr and clear in imr is the candidate, if it stands strictly ahead of
- * every channel that is set in isr, and if the chip is armed. Fixed order is 0 to 7. Rotating order starts after the pointer
- * and ends with it.
+ * An armed chip looks through its channels in priority order. In fixed priority (M0 zero) that is 0, 1, 2 .. 7. In rotating priority
+ * it begins behind the pointer: with pointer 2 it is 3, 4, 5, 6, 7, 0, 1, 2. The first channel that has a request and is not masked is
+ * the candidate, unless a channel in service stands before it in that order, or is that channel itself.
  *
- * Returns the channel, 0 to 7; AM9519A_NO_CANDIDATE if there is none; AM9519A_NO_POINTER exactly if the pointer is above 7,
- * also in fixed order and when the chip is not armed. Every other value of every argument is answered: a caller checks nothing
- * before the call.
+ * Returns
+ *   0 to 7                     that channel,
+ *   AM9519A_NO_CANDIDATE       if there is none, or the chip is not armed,
+ *   AM9519A_POINTER_ABOVE_7    if the pointer is above 7, whatever the other arguments are, and only then.
  *
- *     uint8_t k = am9519a_candidate(0x25, 0x01, 0x20, 0x80, 7);    k is 2: of 2 and 5 the first, ahead of 5 in service
+ * Every value of every argument is answered: there is nothing to check before the call.
+ *
+ *     am9519a_candidate(0x25, 0x01, 0x20, 0x80, 7)    is 2: 0 is masked, and 2 stands before 5, which is in service
+ *     am9519a_candidate(0x25, 0x01, 0x20, 0x81, 2)    is 255: behind pointer 2, channel 5 is in service before 2's turn comes
+ *     am9519a_candidate(0x25, 0x01, 0x20, 0x80, 8)    is 254
  */
 uint8_t am9519a_candidate(uint8_t irr, uint8_t imr, uint8_t isr, uint8_t mode, uint8_t pointer);
 

@@ -14,7 +14,7 @@ static int has(unsigned x, int k) { return (x >> k & 1) != 0; }
 
 /* Walks the priority order once: a request before the first in-service channel is the candidate. */
 static unsigned expected(unsigned irr, unsigned imr, unsigned isr, unsigned mode, unsigned pointer) {
-    if (pointer > 7) return AM9519A_NO_POINTER;
+    if (pointer > 7) return AM9519A_POINTER_ABOVE_7;
     if (!has(mode, 7)) return AM9519A_NO_CANDIDATE;
     int first = has(mode, 0) ? (int)pointer + 1 : 0;
     for (int i = 0; i < 8; i++) {
@@ -39,6 +39,12 @@ static int differs(unsigned irr, unsigned imr, unsigned isr, unsigned mode, unsi
 }
 
 int main(void) {
+    /* The header's examples. */
+    if (am9519a_candidate(0x25, 0x01, 0x20, 0x80, 7) != 2 || am9519a_candidate(0x25, 0x01, 0x20, 0x81, 2) != 255 ||
+        am9519a_candidate(0x25, 0x01, 0x20, 0x80, 8) != 254) {
+        printf("search: an example of the header does not hold\n");
+        return 1;
+    }
     for (uint32_t k = 0; k < UINT32_C(1) << 26; k++) {
         uint32_t pair = k >> 10, rest = k * UINT32_C(0x9E3779B1) & 0xFFFFFF;
         if (differs(pair & 0xFF, rest & 0xFF, rest >> 8 & 0xFF, rest >> 16, pair >> 8)) return 1;
@@ -49,7 +55,7 @@ int main(void) {
     }
     /* Every answer was seen. */
     for (unsigned a = 0; a < 256; a++) {
-        if ((gave[a] != 0) != (a < 8 || a == AM9519A_NO_POINTER || a == AM9519A_NO_CANDIDATE)) {
+        if ((gave[a] != 0) != (a < 8 || a == AM9519A_POINTER_ABOVE_7 || a == AM9519A_NO_CANDIDATE)) {
             printf("search: the answer %u was given %lu times\n", a, gave[a]);
             return 1;
         }

@@ -9,6 +9,22 @@ pub struct Bench {
     pub held: bool,
 }
 
+// What the cases look at in a chip's table, and whether it was given.
+struct Table {
+    given: bool,
+    irr: u8,
+    isr: u8,
+    imr: u8,
+}
+
+// And in its picture.
+struct Picture {
+    given: bool,
+    gint: u8,
+    ei: u8,
+    pause: u8,
+}
+
 impl Bench {
     // A start, which must be accepted.
     pub fn start(count: u8, fill: u8) -> Bench {
@@ -117,50 +133,68 @@ impl Bench {
 
     // A field of a view has this value. A view that is refused shows nothing.
     pub fn irr(self, chip: u8, value: u8) -> Bench {
-        let view = self.chain.register_view(chip);
-        match view {
-            RegisterView::Table(table) => self.shows(table.irr == value),
-            RegisterView::NoTable(_) => self.shows(false),
-        }
+        let table = self.table(chip);
+        self.shows(table.given & (table.irr == value))
     }
 
     pub fn isr(self, chip: u8, value: u8) -> Bench {
-        let view = self.chain.register_view(chip);
-        match view {
-            RegisterView::Table(table) => self.shows(table.isr == value),
-            RegisterView::NoTable(_) => self.shows(false),
-        }
+        let table = self.table(chip);
+        self.shows(table.given & (table.isr == value))
     }
 
     pub fn imr(self, chip: u8, value: u8) -> Bench {
-        let view = self.chain.register_view(chip);
-        match view {
-            RegisterView::Table(table) => self.shows(table.imr == value),
-            RegisterView::NoTable(_) => self.shows(false),
-        }
+        let table = self.table(chip);
+        self.shows(table.given & (table.imr == value))
     }
 
     pub fn gint(self, chip: u8, value: u8) -> Bench {
-        let view = self.chain.pin_view(chip);
-        match view {
-            PinView::Picture(pins) => self.shows(pins.gint == value),
-            PinView::NoPicture(_) => self.shows(false),
-        }
+        let picture = self.picture(chip);
+        self.shows(picture.given & (picture.gint == value))
     }
 
     pub fn ei(self, chip: u8, value: u8) -> Bench {
-        let view = self.chain.pin_view(chip);
-        match view {
-            PinView::Picture(pins) => self.shows(pins.ei == value),
-            PinView::NoPicture(_) => self.shows(false),
-        }
+        let picture = self.picture(chip);
+        self.shows(picture.given & (picture.ei == value))
     }
 
     pub fn pause(self, value: u8) -> Bench {
-        let view = self.chain.pin_view(0);
+        let picture = self.picture(0);
+        self.shows(picture.given & (picture.pause == value))
+    }
+
+    fn table(self, chip: u8) -> Table {
+        let view = self.chain.register_view(chip);
         match view {
-            PinView::Picture(pins) => self.shows(pins.pause == value),
-            PinView::NoPicture(_) => self.shows(false),
+            RegisterView::Table(r) => Table {
+                given: true,
+                irr: r.irr,
+                isr: r.isr,
+                imr: r.imr,
+            },
+            RegisterView::NoTable(_) => Table {
+                given: false,
+                irr: 0,
+                isr: 0,
+                imr: 0,
+            },
+        }
+    }
+
+    fn picture(self, chip: u8) -> Picture {
+        let view = self.chain.pin_view(chip);
+        match view {
+            PinView::Picture(p) => Picture {
+                given: true,
+                gint: p.gint,
+                ei: p.ei,
+                pause: p.pause,
+            },
+            PinView::NoPicture(_) => Picture {
+                given: false,
+                gint: 0,
+                ei: 0,
+                pause: 0,
+            },
         }
     }
 

@@ -1,4 +1,5 @@
-// The eight events as public calls: each takes any chain and any numbers, and hands back a new chain by value.
+// The eight events as public calls: each takes any chain and any numbers, and hands back a new chain by value. `on_sound` is for a run, which has
+// seen that its chain is sound.
 ghost use mathlib.Core.Bool.{true};
 ghost use mathlib.Core.Path.{_≡_};
 ghost use Rattle.chain.specs.Events.{eventOf};

@@ -1,6 +1,6 @@
 // One to eight chained Am9519A chips: the chain's record, the eight events, and the two views of one state.
-// The records stand here. The public calls are in start.rt, calls.rt (the eight events), views.rt and sound.rt; they take every input. What
-// stands behind them asks for what they have checked: a sound chain, an event that no refusal meets, an index in range.
+// The records stand here. The public calls are in start.rt, calls.rt (the eight events), views.rt, sound.rt and answers.rt (an answer's numbers); they
+// take every input. What stands behind them asks for what they have checked: a sound chain, an event that no refusal meets, an index in range.
 mod answers;
 mod calls;
 mod changes;

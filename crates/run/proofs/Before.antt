@@ -1,4 +1,4 @@
--- A run that takes none of 1, 10 and 11 has a sound chain, and room for every listed event.
+-- A run that takes none of 1, 10 and 11 has a sound chain, and room for every listed event; one of them ends it before any event.
 -- Assumes nothing.
 use mathlib.Core.Bool.{true, false, not}
 use mathlib.Core.List.{List, [], _∷_}
@@ -15,26 +15,25 @@ use Rattle.chain.specs.Sound.{sound}
 use Rattle.chain.specs.declared.Chain.{Chain}
 use Rattle.run.specs.Run.{listLength, brokenEvent, shortResults, beforeAny, stopped, runFrom, runOf}
 
-pub before-sound : (s : Chain) (bytes listed room : ℕ) → isAccepted (beforeAny s bytes listed room) ≡ true → sound s ≡ true
+pub before-sound : (s : Chain) (bytes results : List ℕ) → isAccepted (beforeAny s bytes results) ≡ true → sound s ≡ true
 unfolding beforeAny
-before-sound s bytes listed room h =
-    not-false (sound s) (passed-first (not (sound s)) NotSound (brokenEvent bytes ∷ shortResults listed room ∷ []) (accepted-is _ h))
+before-sound s bytes results h =
+    not-false (sound s) (passed-first (not (sound s)) NotSound (brokenEvent bytes ∷ shortResults bytes results ∷ []) (accepted-is _ h))
 
-pub before-room : (s : Chain) (bytes listed room : ℕ) → isAccepted (beforeAny s bytes listed room) ≡ true → 2 * listed ≤ room
+pub before-room : (s : Chain) (bytes results : List ℕ) → isAccepted (beforeAny s bytes results) ≡ true → 2 * listLength bytes ≤ length results
 unfolding beforeAny
-before-room s bytes listed room h =
-    ltb-false _ _ (passed-first (ltb room (2 * listed)) ShortResults []
-    (passed-rest (not (eqb (bytes % 4) 0)) BrokenEvent (shortResults listed room ∷ [])
-    (passed-rest (not (sound s)) NotSound (brokenEvent bytes ∷ shortResults listed room ∷ []) (accepted-is _ h))))
+before-room s bytes results h =
+    ltb-false _ _ (passed-first (ltb (length results) (2 * listLength bytes)) ShortResults []
+    (passed-rest (not (eqb (length bytes % 4) 0)) BrokenEvent (shortResults bytes results ∷ [])
+    (passed-rest (not (sound s)) NotSound (brokenEvent bytes ∷ shortResults bytes results ∷ []) (accepted-is _ h))))
 
--- one of them ends the run before any event; where none applies the events decide
-pub refused-before : (s : Chain) (bytes : List ℕ) (limit : ℕ) (results : List ℕ) (v : Verdict) → v ≡ beforeAny s (length bytes) (listLength bytes) (length results)
+pub refused-before : (s : Chain) (bytes : List ℕ) (limit : ℕ) (results : List ℕ) (v : Verdict) → v ≡ beforeAny s bytes results
     → isAccepted v ≡ false
     → runOf s bytes limit results ≡ stopped v 0 s results
 unfolding runOf
 refused-before s bytes limit results v is off = simp (← is, off)
 
-pub none-before : (s : Chain) (bytes : List ℕ) (limit : ℕ) (results : List ℕ) (v : Verdict) → v ≡ beforeAny s (length bytes) (listLength bytes) (length results)
+pub none-before : (s : Chain) (bytes : List ℕ) (limit : ℕ) (results : List ℕ) (v : Verdict) → v ≡ beforeAny s bytes results
     → isAccepted v ≡ true
     → runOf s bytes limit results ≡ runFrom (min limit (listLength bytes)) bytes 0 s results
 unfolding runOf

@@ -41,8 +41,8 @@ step-sound Unknown s h = h
 pub noted-length : (n : ℕ) (h : Handed) (results : List ℕ) → length (noted n h results) ≡ length results
 noted-length n h results = length-set (set results (2 * n) (h .drove)) (2 * n + 1) (h .byte) ∙ length-set results (2 * n) (h .drove)
 
--- What holds where a run stops, none more accepted, and before an accepted event if after it, holds of the run: from the n-th event on, of the chain and
--- results there, the report, and how many it accepts.
+-- What holds where a run stops, none more accepted, and before an accepted event if after it, holds of every run over these bytes: from the n-th event on,
+-- of the chain and results there, the report, and how many events it accepts.
 abbrev pub OfRun : Type 1
 OfRun = ℕ → Chain → List ℕ → Report → ℕ → Type 0
 
@@ -50,18 +50,18 @@ either : (P : Report → ℕ → Type 0) (goes : Bool) (rest stop : Report) (k :
 either P true rest stop k on off = on refl
 either P false rest stop k on off = off
 
-pub run-through : (P : OfRun)
+pub run-through : (bytes : List ℕ) (P : OfRun)
     → ((n : ℕ) (s : Chain) (results : List ℕ) (v : Verdict) → P n s results (stopped v n s results) 0)
-    → ((n : ℕ) (s : Chain) (results : List ℕ) (l : Listed) (r : Report) (k : ℕ) → isAccepted (verdictIn (stepOf l s .answer)) ≡ true
-    → P (n + 1) (stepOf l s .chain) (noted n (handed (stepOf l s .answer)) results) r k
+    → ((n : ℕ) (s : Chain) (results : List ℕ) (r : Report) (k : ℕ) → isAccepted (verdictIn (stepOf (listedAt bytes n) s .answer)) ≡ true
+    → P (n + 1) (stepOf (listedAt bytes n) s .chain) (noted n (handed (stepOf (listedAt bytes n) s .answer)) results) r k
     → P n s results r (k + 1))
-    → (left : ℕ) (bytes : List ℕ) (n : ℕ) (s : Chain) (results : List ℕ) → P n s results (runFrom left bytes n s results) (acceptedFrom left bytes n s)
+    → (left n : ℕ) (s : Chain) (results : List ℕ) → P n s results (runFrom left bytes n s results) (acceptedFrom left bytes n s)
 unfolding runFrom acceptedFrom
-run-through P stop step zero bytes n s results = stop n s results Accepted
-run-through P stop step (suc left) bytes n s results =
+run-through bytes P stop step zero n s results = stop n s results Accepted
+run-through bytes P stop step (suc left) n s results =
     let o : Outcome = stepOf (listedAt bytes n) s in
     let rest : Report = runFrom left bytes (n + 1) (o .chain) (noted n (handed (o .answer)) results) in
     let more : ℕ = acceptedFrom left bytes (n + 1) (o .chain) in
     either (P n s results) (isAccepted (verdictIn (o .answer))) rest (stopped (verdictIn (o .answer)) n s results) more
-    (λ on. step n s results (listedAt bytes n) rest more on (run-through P stop step left bytes (n + 1) (o .chain) (noted n (handed (o .answer)) results)))
+    (λ on. step n s results rest more on (run-through bytes P stop step left (n + 1) (o .chain) (noted n (handed (o .answer)) results)))
     (stop n s results (verdictIn (o .answer)))

@@ -30,16 +30,16 @@ abbrev pub listLength : List ℕ → ℕ
 listLength bytes = length bytes / 4
 
 -- 10: event bytes not a multiple of four
-abbrev pub brokenEvent : ℕ → Bool × Refusal
-brokenEvent bytes = (not (eqb (bytes % 4) 0), BrokenEvent)
+abbrev pub brokenEvent : List ℕ → Bool × Refusal
+brokenEvent bytes = (not (eqb (length bytes % 4) 0), BrokenEvent)
 
--- 11: result buffer under two bytes per listed event
-abbrev pub shortResults : ℕ → ℕ → Bool × Refusal
-shortResults listed room = (ltb room (2 * listed), ShortResults)
+-- 11: result buffer under two bytes per listed event, whatever the limit
+abbrev pub shortResults : List ℕ → List ℕ → Bool × Refusal
+shortResults bytes results = (ltb (length results) (2 * listLength bytes), ShortResults)
 
--- what a run takes before any event, of a list of so many bytes and events, and so much room for results
-unfoldable pub beforeAny : Chain → ℕ → ℕ → ℕ → Verdict
-beforeAny s bytes listed room = firstOf (notSound s ∷ brokenEvent bytes ∷ shortResults listed room ∷ [])
+-- what a run takes before any event
+unfoldable pub beforeAny : Chain → List ℕ → List ℕ → Verdict
+beforeAny s bytes results = firstOf (notSound s ∷ brokenEvent bytes ∷ shortResults bytes results ∷ [])
 
 -- a listed event: 12, kind outside 1 to 8, before the event's own refusals
 abbrev pub stepOf : Listed → Chain → Outcome
@@ -70,8 +70,9 @@ acceptedFrom (suc left) bytes n s =
     let o : Outcome = stepOf (listedAt bytes n) s in
     cond (isAccepted (verdictIn (o .answer))) (acceptedFrom left bytes (n + 1) (o .chain) + 1) 0
 
--- the run: 1, 10 and 11 before any event, and 11 whatever the limit
+-- the run: 1, 10 and 11 before any event
 unfoldable pub runOf : Chain → List ℕ → ℕ → List ℕ → Report
 runOf s bytes limit results =
-    let v : Verdict = beforeAny s (length bytes) (listLength bytes) (length results) in
-    cond (isAccepted v) (runFrom (min limit (listLength bytes)) bytes 0 s results) (stopped v 0 s results)
+    cond (isAccepted (beforeAny s bytes results))
+    (runFrom (min limit (listLength bytes)) bytes 0 s results)
+    (stopped (beforeAny s bytes results) 0 s results)

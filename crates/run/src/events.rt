@@ -1,11 +1,16 @@
 // What a run takes before any event, and its events one by one.
-ghost use mathlib.Core.Bool.{true};
+ghost use mathlib.Core.Bool.{true, not};
+ghost use mathlib.Core.List.{[], _∷_};
 ghost use mathlib.Core.Path.{_≡_};
-ghost use Prim.Native.Nat.{_+_, _*_, _≤_, min};
-ghost use lib.ListN.{length};
+ghost use Prim.Native.Nat.{_+_, _*_, _%_, _≤_, min};
+ghost use lib.Dec.{eqb, ltb};
+ghost use lib.ListN.{length as lengthOf};
+ghost use Rattle.refusal.specs.Numbers.{firstOf};
+ghost use Rattle.refusal.specs.declared.Refusal.the-variants.{BrokenEvent, ShortResults};
 ghost use Rattle.chain.specs.Answers.{handed};
+ghost use Rattle.chain.specs.Refusals.{notSound};
 ghost use Rattle.chain.specs.Sound.{sound};
-ghost use Rattle.run.specs.Run.{stepOf, noted, runFrom, beforeAny};
+ghost use Rattle.run.specs.Run.{stepOf, noted, runFrom};
 use crate::Listed;
 use crate::Ran;
 use chain::Answer;
@@ -14,15 +19,16 @@ use chain::Outcome;
 use refusal::Refusal;
 use refusal::Verdict;
 
-// 1, 10 and 11 come before any event.
-pub(crate) fn before_any(chain: Chain, bytes: usize, listed: usize, room: usize) -> Verdict
-    requires { ⌜ 2 * listed ≤ bytes ⌝ }
-    ensures { λ r. ⌜ r ≡ beforeAny chain bytes listed room ⌝ }
+// 1, 10 and 11 come before any event: for a list of so many bytes and events, and so much room for results. The events are asked to
+// be in the bytes so that twice their number is a number of bytes too.
+pub(crate) fn before_any(chain: Chain, length: usize, listed: usize, room: usize) -> Verdict
+    requires { ⌜ 2 * listed ≤ length ⌝ }
+    ensures { λ r. ⌜ r ≡ firstOf (notSound chain ∷ (not (eqb (length % 4) 0), BrokenEvent) ∷ (ltb room (2 * listed), ShortResults) ∷ []) ⌝ }
 {
     if !chain.is_sound() {
         return Verdict::Refused(Refusal::NotSound);
     }
-    if bytes % 4 != 0 {
+    if length % 4 != 0 {
         return Verdict::Refused(Refusal::BrokenEvent);
     }
     if room < 2 * listed {
@@ -38,11 +44,24 @@ pub(crate) fn least(a: usize, b: usize) -> usize
     if a < b { a } else { b }
 }
 
+impl Ran {
+    // What is handed back where a run stops.
+    pub(crate) fn stopped(verdict: Verdict, accepted: usize, chain: Chain) -> Ran
+        ensures { λ r. ⌜ r ≡ record { verdict = verdict; accepted = accepted; chain = chain } ⌝ }
+    {
+        Ran {
+            verdict: verdict,
+            accepted: accepted,
+            chain: chain,
+        }
+    }
+}
+
 // The first so many events of the list.
 pub(crate) fn perform(chain: Chain, bytes: &[u8], count: usize, results: &mut [u8]) -> Ran
     requires { ⌜ sound chain ≡ true ⌝ }
-    requires { ⌜ 4 * count ≤ length (now bytes) ⌝ }
-    requires { ⌜ 2 * count ≤ length (now results) ⌝ }
+    requires { ⌜ 4 * count ≤ lengthOf (now bytes) ⌝ }
+    requires { ⌜ 2 * count ≤ lengthOf (now results) ⌝ }
     ensures { λ r. ⌜ r ≡ runFrom count (now (bytes .entry)) 0 chain (now (results .entry)) .ran ⌝ }
     ensures { λ _. ⌜ now (results .exit) ≡ runFrom count (now (bytes .entry)) 0 chain (now (results .entry)) .results ⌝ }
 {
@@ -53,22 +72,14 @@ pub(crate) fn perform(chain: Chain, bytes: &[u8], count: usize, results: &mut [u
         let answer = outcome.answer;
         let verdict = answer.verdict();
         if !verdict.is_accepted() {
-            return Ran {
-                verdict: verdict,
-                accepted: n,
-                chain: s,
-            };
+            return Ran::stopped(verdict, n, s);
         }
         note(results, n, answer);
         let next = outcome.chain;
         s = next;
         n += 1;
     }
-    Ran {
-        verdict: Verdict::Accepted,
-        accepted: count,
-        chain: s,
-    }
+    Ran::stopped(Verdict::Accepted, count, s)
 }
 
 // A listed event: 12, kind outside 1 to 8, before the event's own refusals.
@@ -87,7 +98,7 @@ fn step(chain: Chain, listed: Listed) -> Outcome
 
 // The n-th accepted event's two bytes: 1 and the byte driven or read, or 0 and 0.
 fn note(results: &mut [u8], n: usize, answer: Answer)
-    requires { ⌜ 2 * n + 2 ≤ length (now results) ⌝ }
+    requires { ⌜ 2 * n + 2 ≤ lengthOf (now results) ⌝ }
     ensures { λ _. ⌜ now (results .exit) ≡ noted n (handed answer) (now (results .entry)) ⌝ }
 {
     let first = 2 * n;

@@ -34,11 +34,7 @@ pub fn run(chain: Chain, bytes: &[u8], limit: usize, results: &mut [u8]) -> Ran
     let count = least(limit, listed);
     let verdict = before_any(chain, bytes.len(), listed, results.len());
     if !verdict.is_accepted() {
-        return Ran {
-            verdict: verdict,
-            accepted: 0,
-            chain: chain,
-        };
+        return Ran::stopped(verdict, 0, chain);
     }
     perform(chain, bytes, count, results)
 }

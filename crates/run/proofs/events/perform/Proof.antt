@@ -1,20 +1,20 @@
 -- `run::events::perform` meets its contract.
 -- Assumes nothing.
 use mathlib.Core.Bool.{true}
-use mathlib.Core.Path.{refl, _≡_, sym, ap, _∙_}
-use Prim.Native.Nat.{_-_, _≤_, _+_}
+use mathlib.Core.Path.{ap, _≡_, refl, _∙_, sym}
+use Prim.Native.Nat.{_≤_, _+_, _-_}
 use native.Mathlib.Nat.{sub-zero}
 use native.Mathlib.Omega.{arith}
 use lib.ListN.{length}
 use borrow.Author.Needs.{needs}
-use borrow.Author.Tests.{not-false, not-true}
+use borrow.Author.Tests.{not-true, not-false}
 use Rattle.chain.specs.Answers.{handed}
 use Rattle.chain.specs.Sound.{sound}
 use Rattle.refusal.specs.Numbers.{isAccepted}
 use Rattle.refusal.specs.declared.Verdict.{Verdict}
-use Rattle.run.proofs.Steps.{goes-on, stops, step-sound, noted-length}
+use Rattle.run.proofs.Steps.{stops, goes-on, noted-length, step-sound}
 use Rattle.run.specs.List.{listedAt}
-use Rattle.run.specs.Run.{runFrom, stepOf, stopped}
+use Rattle.run.specs.Run.{runFrom, stopped, stepOf}
 use Rattle.run.proofs.events.perform.Statement.{statement}
 use Rattle.run.proofs.events.perform.Tie as tie
 
@@ -39,6 +39,9 @@ verdict-requires c κs = search needs
 is-accepted-requires : tie.Need-is-accepted-requires Inv-loop μ-loop
 is-accepted-requires c κs = search needs
 
+stopped-requires : tie.Need-stopped-requires Inv-loop μ-loop
+stopped-requires c κs = search needs
+
 -- the event that was performed is the listed one
 performed : (c : tie.After-step Inv-loop μ-loop) →
     c .step .result ≡ stepOf (listedAt (c .before .before .before .before .before .before .args .bytes .now) (c .before .before .before .loop .n)) (c .before .before .before .loop .s)
@@ -53,16 +56,16 @@ stopped-here c =
     ∙ ap (λ v. stopped v (c .before .before .before .before .before .before .loop .n) (c .before .before .before .before .before .before .loop .s) (c .before .before .before .before .before .before .loop .results)) (sym (c .before .before .verdict .ensures))
 
 same-length : tie.Need-same-length Inv-loop μ-loop
-same-length c = c .before .before .before .before .before .before .loop .inv .2
+same-length c = c .before .before .before .before .before .before .before .loop .inv .2
 
 returns : tie.Need-returns Inv-loop μ-loop
-returns c = (sym (ap (λ r. r .ran) (stopped-here c)), sym (ap (λ r. r .results) (stopped-here c)))
+returns c = (c .stopped .ensures ∙ sym (ap (λ r. r .ran) (stopped-here (c .before))), sym (ap (λ r. r .results) (stopped-here (c .before))))
 
 note-requires : tie.Need-note-requires Inv-loop μ-loop
 note-requires c κs = omega (arith, c .before .before .before .before .before .before .before .before .before .before .pre .1 .1, c .before .before .before .before .before .before .before .loop .inv .2)
 
 add-n : tie.Need-add-n Inv-loop μ-loop
-add-n c = omega arith
+add-n c = omega (arith, c .before .before .before .before .before .before .before .before .before .before .before .before .before .before .pre .1 .0)
 
 loop-less : tie.Need-loop-less Inv-loop μ-loop
 loop-less c = omega arith
@@ -77,19 +80,22 @@ loop-again c = (
       ∙ ap (runFrom (c .before .before .before .before .before .before .before .before .before .before .before .before .before .before .args .count - (c .before .before .before .before .before .before .before .before .before .before .before .loop .n + 1)) (c .before .before .before .before .before .before .before .before .before .before .before .before .before .before .args .bytes .now) (c .before .before .before .before .before .before .before .before .before .before .before .loop .n + 1) (c .before .before .before .before .before .before .before .before .step .result .chain)) (sym (c .before .before .before .note .ensures)),
 )
 
+stopped-requires-2 : tie.Need-stopped-requires-2 Inv-loop μ-loop
+stopped-requires-2 c κs = search needs
+
 same-length-2 : tie.Need-same-length-2 Inv-loop μ-loop
-same-length-2 c = c .before .loop .inv .2
+same-length-2 c = c .before .before .loop .inv .2
 
 returns-2 : tie.Need-returns-2 Inv-loop μ-loop
 unfolding runFrom
 returns-2 c =
-    let none-left : c .before .before .before .before .args .count - c .before .loop .n ≡ 0 = omega arith in
-    let at-end : c .before .loop .n ≡ c .before .before .before .before .args .count = omega arith in
-    let whole : runFrom (c .before .before .before .before .args .count) (c .before .before .before .before .args .bytes .now) 0 (c .before .before .before .before .args .chain) (c .before .before .before .before .args .results .now) ≡ stopped Verdict.Accepted (c .before .before .before .before .args .count) (c .before .loop .s) (c .before .loop .results) =
-    c .before .loop .inv .3
-    ∙ ap (λ left. runFrom left (c .before .before .before .before .args .bytes .now) (c .before .loop .n) (c .before .loop .s) (c .before .loop .results)) none-left
-    ∙ ap (λ n. stopped Verdict.Accepted n (c .before .loop .s) (c .before .loop .results)) at-end in
-    (sym (ap (λ r. r .ran) whole), sym (ap (λ r. r .results) whole))
+    let none-left : c .before .before .before .before .before .args .count - c .before .before .loop .n ≡ 0 = omega arith in
+    let at-end : c .before .before .loop .n ≡ c .before .before .before .before .before .args .count = omega arith in
+    let ended : runFrom (c .before .before .before .before .before .args .count) (c .before .before .before .before .before .args .bytes .now) 0 (c .before .before .before .before .before .args .chain) (c .before .before .before .before .before .args .results .now) ≡ stopped Verdict.Accepted (c .before .before .before .before .before .args .count) (c .before .before .loop .s) (c .before .before .loop .results) =
+    c .before .before .loop .inv .3
+    ∙ ap (λ left. runFrom left (c .before .before .before .before .before .args .bytes .now) (c .before .before .loop .n) (c .before .before .loop .s) (c .before .before .loop .results)) none-left
+    ∙ ap (λ n. stopped Verdict.Accepted n (c .before .before .loop .s) (c .before .before .loop .results)) at-end in
+    (c .stopped2 .ensures ∙ sym (ap (λ r. r .ran) ended), sym (ap (λ r. r .results) ended))
 
 pub perform-spec : {M : Type 1} → statement M
 perform-spec =
@@ -102,11 +108,13 @@ perform-spec =
     step-requires
     verdict-requires
     is-accepted-requires
+    stopped-requires
     same-length
     returns
     note-requires
     add-n
     loop-less
     loop-again
+    stopped-requires-2
     same-length-2
     returns-2)
