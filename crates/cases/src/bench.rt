@@ -51,17 +51,17 @@ impl Bench {
     }
 
     // Accepted, and no byte is driven or read.
-    pub fn accepted(self, outcome: Outcome) -> Bench {
+    fn accepted(self, outcome: Outcome) -> Bench {
         self.after(outcome, 0, 0, 0)
     }
 
     // Accepted, and this byte is driven or read.
-    pub fn gives(self, outcome: Outcome, byte: u8) -> Bench {
+    fn gives(self, outcome: Outcome, byte: u8) -> Bench {
         self.after(outcome, 0, 1, byte)
     }
 
     // Refused by this number.
-    pub fn refused(self, outcome: Outcome, number: u8) -> Bench {
+    fn refused(self, outcome: Outcome, number: u8) -> Bench {
         self.after(outcome, number, 0, 0)
     }
 
