@@ -3,7 +3,7 @@
 use mathlib.Core.Path.{_≡_, refl, ap, ap₂, sym, subst, _∙_}
 use mathlib.Core.Logic.{⊎-elim}
 use mathlib.Core.Bool.{Bool, true, false, cond, _&&_, Bool·beq}
-use Prim.Native.Nat.{ℕ, zero, suc, _+_, _<_, suc-le-suc}
+use Prim.Native.Nat.{ℕ, zero, suc, _+_, _≤_, _<_, zero-le, suc-le-suc}
 use native.Mathlib.Nat.{le-of-suc-le-suc, not-suc-le-zero, eq-or-lt-of-le, zero-lt-suc, le-refl, le-step}
 use lib.Dec.{T}
 use Rattle.bits.specs.Below.{digit, howMany, every, first}
@@ -89,3 +89,25 @@ pub first-none : (n : ℕ) (f : ℕ → Bool) → ((k : ℕ) → k < n → f k �
 first-none zero f none = refl
 first-none (suc n) f none =
     rw (none 0 (zero-lt-suc n)) (ap suc (first-none n (λ k. f (suc k)) (λ k l. none (suc k) (suc-le-suc l))))
+
+-- the first that passes does pass
+pub first-passes : (n : ℕ) (f : ℕ → Bool) → first n f < n → f (first n f) ≡ true
+first-passes zero f h = absurd (not-suc-le-zero h)
+first-passes (suc n) f h = by (f 0) refl (first-passes n (λ i. f (suc i))) h
+  where
+    rest : ℕ
+    rest = first n (λ i. f (suc i))
+
+    by : (here : Bool) → f 0 ≡ here → (rest < n → f (suc rest) ≡ true) → cond here 0 (suc rest) < suc n → f (cond here 0 (suc rest)) ≡ true
+    by true is later h = is
+    by false is later h = later (le-of-suc-le-suc h)
+
+-- and stands at or before each that passes
+pub first-before : (n : ℕ) (f : ℕ → Bool) (k : ℕ) → k < n → f k ≡ true → first n f ≤ k
+first-before zero f k h is = absurd (not-suc-le-zero h)
+first-before (suc n) f zero h is = rw is zero-le
+first-before (suc n) f (suc k) h is = by (f 0) (first-before n (λ i. f (suc i)) k (le-of-suc-le-suc h) is)
+  where
+    by : (here : Bool) → first n (λ i. f (suc i)) ≤ k → cond here 0 (suc (first n (λ i. f (suc i)))) ≤ suc k
+    by true l = zero-le
+    by false l = suc-le-suc l

@@ -1,3 +1,4 @@
+pub mod Acknowledge
 pub mod Kept
 pub mod Number
 pub mod Passed

@@ -1,11 +1,7 @@
--- The two views of one state (document 01, "Views and runs"), and when a picture and a table agree.
-use mathlib.Core.Bool.{Bool, not, cond, _&&_}
+-- The two views of one state (document 01, "Views and runs"): the table of the registers and the picture of the pins.
 use mathlib.Core.List.{[], _∷_}
-use mathlib.Core.Path.{_≡_}
 use Prim.Native.Nat.{ℕ}
-use lib.Dec.{eqb}
 use Rattle.bits.specs.Below.{digit}
-use Rattle.bits.specs.Byte.{bit}
 use Rattle.chip.specs.Status.{statusByte, waitingNumber}
 use Rattle.refusal.specs.Numbers.{firstOf}
 use Rattle.refusal.specs.declared.Verdict.{Verdict}
@@ -65,13 +61,3 @@ registerView i s = tableOr (viewVerdict i s) (tableOf i s)
 
 unfoldable pub pinView : ℕ → Chain → PinView
 pinView i s = pictureOr (viewVerdict i s) (pictureOf i s)
-
--- GINT is active, read off its pin and M3
-abbrev pub gintReadsActive : ℕ → ℕ → Bool
-gintReadsActive mode pin = eqb pin (cond (bit mode 3) 1 0)
-
--- they agree when their event numbers are equal, S6 is the EI pin, and GINT is active exactly if S7 is set and S4 is clear
-pub record Agree (table : Registers) (picture : Pins) : Type 0 where
-  pub events : table .event ≡ picture .event
-  pub s6-is-ei : digit (bit (table .status) 6) ≡ picture .ei
-  pub gint-is-s7-and-not-s4 : gintReadsActive (table .mode) (picture .gint) ≡ (bit (table .status) 7 && not (bit (table .status) 4))

@@ -2,6 +2,7 @@ pub mod Along
 pub mod Bench
 pub mod Cases
 pub mod Corners
+pub mod Demand3
 pub mod Kept
 pub mod Misread
 pub mod Runs

@@ -1,0 +1,302 @@
+-- One event of a wait. Every event but an answer and a reset leaves the chip's pointer; an answer for another channel brings the request nearer; and a
+-- first pulse that counts is answered by the chip.
+-- Assumes nothing.
+use mathlib.Core.Bool.{Bool, true, false, not, _&&_}
+use mathlib.Core.List.{List, [], _∷_}
+use mathlib.Core.Logic.{⊎-elim}
+use mathlib.Core.Path.{_≡_, refl, ap, sym, subst, _∙_}
+use Prim.Native.Nat.{ℕ, zero, suc, _+_, _≤_, _<_, suc-le-suc}
+use native.Mathlib.Nat.{zero-lt-suc, lt-of-le-of-lt, mod-lt}
+use native.Mathlib.Omega.{arith}
+use lib.Dec.{T, eqb, ltb, lit<}
+use lib.ListN.{getD, set, length}
+use lib.Seq.{getD-set-same}
+use borrow.Author.Tests.{eqb-true, eqb-false, eq-eqb, not-true, leb-true}
+use Rattle.bits.proofs.Below.{both-left, both-right, every-each}
+use Rattle.bits.proofs.Stored.{stored}
+use Rattle.bits.specs.Below.{digit, every}
+use Rattle.bits.specs.Byte.{bit, isWaiting}
+use Rattle.search.proofs.Order.{placeOf, candidate-at, candidate-exists, waiting-before, waiting-nearer}
+use Rattle.search.specs.Candidate.{candidate, exists}
+use Rattle.search.specs.Order.{lastOf, channelAt, firstWaiting}
+use Rattle.refusal.proofs.Numbers.{not-both, accepted-is}
+use Rattle.refusal.specs.Numbers.{isAccepted}
+use Rattle.refusal.specs.declared.Verdict.{Verdict}
+use Rattle.refusal.specs.declared.Verdict.the-variants.{Accepted, Refused}
+use Rattle.chip.proofs.Pointer.{answered-pointer, commanded-pointer, written-pointer, line-pointer, finished-pointer}
+use Rattle.chip.proofs.Soundness.{pointer-sound}
+use Rattle.chip.specs.Fields.{noChip}
+use Rattle.chip.specs.Figure4.{isReset}
+use Rattle.chip.specs.Status.{isArmed, isPolled, isRotating, candidateOf, gintActive}
+use Rattle.chip.specs.declared.Chip.{Chip}
+use Rattle.chain.proofs.Acknowledge.{Answers, selected-answers, ei-high, reached-selected}
+use Rattle.chain.proofs.Rules.{chainFields}
+use Rattle.chain.proofs.Soundness.{chip-sound}
+use Rattle.chain.specs.Events.{changed, counted, accepted, refused, judged, eventOf}
+use Rattle.chain.specs.Fields.{chipAt}
+use Rattle.chain.specs.Pins.{isIdle, isResponding}
+use Rattle.chain.specs.Pulse.{replyOf, selected, firstPulse, fallen, risenAfter, risen}
+use Rattle.chain.specs.Refusals.{verdictOf}
+use Rattle.chain.specs.Sound.{sound}
+use Rattle.chain.specs.declared.Chain.{Chain}
+use Rattle.chain.specs.declared.Event.{Event}
+use Rattle.chain.specs.declared.Event.the-variants.{Command, Data, Status, Read, Line, Enable, Fall, Rise}
+use Rattle.chain.specs.declared.Reply.{Reply}
+use Rattle.chain.specs.declared.Response.{Response}
+use Rattle.chain.specs.declared.Response.the-variants.{Idle, UnderWay}
+use Rattle.demands.specs.Kept.{replaces}
+use Rattle.demands.specs.Wait.{waits, isFall, isFirstPulse, isFor, isForAnother, answersIt, answersAnother, isResetOf, resets, reaches, isCounted}
+use Rattle.demands.proofs.Kept.{events-keep}
+
+-- what a waiting request says of its chip
+pub record Waiting (c : Chip) (channel : ℕ) : Type 0 where
+  pub armed : isArmed c ≡ true
+  pub interrupt : isPolled c ≡ false
+  pub rotating : isRotating c ≡ true
+  pub request : isWaiting (c .irr) (c .imr) channel ≡ true
+
+pub waiting-parts : (c : Chip) (channel : ℕ) → waits c channel ≡ true → Waiting c channel
+waiting-parts c channel e =
+    let first = both-left (isArmed c && not (isPolled c) && isRotating c) _ e in
+    let second = both-left (isArmed c && not (isPolled c)) _ first in
+    record {
+      armed = both-left (isArmed c) _ second;
+      interrupt = not-true (isPolled c) (both-right (isArmed c) _ second);
+      rotating = both-right (isArmed c && not (isPolled c)) _ first;
+      request = both-right (isArmed c && not (isPolled c) && isRotating c) _ e;
+    }
+
+-- the pointer of chip i
+abbrev pub pointerAt : Chain → ℕ → ℕ
+pointerAt s i = chipAt s i .pointer
+
+-- a chip with the same pointer put in a chip's place
+same-pointer : (l : List Chip) (i : ℕ) (c : Chip) → c .pointer ≡ getD l i noChip .pointer → getD (set l i c) i noChip .pointer ≡ getD l i noChip .pointer
+same-pointer l i c is =
+    ⊎-elim (λ new. ap (λ (c : Chip). c .pointer) new ∙ is) (λ old. ap (λ (c : Chip). c .pointer) old) (stored l i i c noChip)
+
+-- the fall of a response under way, and a rise, leave every pointer
+rise-pointer : (last : Bool) (r : Reply) (s : Chain) → pointerAt (risenAfter last r s) (r .chip) ≡ pointerAt s (r .chip)
+unfolding chainFields risenAfter
+rise-pointer true r s = same-pointer (s .chips) (r .chip) _ (finished-pointer (r .channel) (chipAt s (r .chip)))
+rise-pointer false r s = refl
+
+risen-pointer : (response : Response) (s : Chain) (i : ℕ) → isResponding response i ≡ true → pointerAt (risen response s) i ≡ pointerAt s i
+unfolding risen
+risen-pointer Idle s i e = not-both e
+risen-pointer (UnderWay r) s i e =
+    subst (λ (k : ℕ). pointerAt (risenAfter (eqb (r .delivered) (r .length)) r s) k ≡ pointerAt s k) (eqb-true (r .chip) i e) (rise-pointer _ r s)
+
+-- so does whatever else changes chip i: a command that does not reset it, a data write, a line
+put-pointer : (l : List Chip) (j i : ℕ) (c : Chip) → eqb j i ≡ true → c .pointer ≡ getD l j noChip .pointer → getD (set l j c) i noChip .pointer ≡ getD l i noChip .pointer
+put-pointer l j i c e is =
+    subst (λ (k : ℕ). getD (set l j c) k noChip .pointer ≡ getD l k noChip .pointer) (eqb-true j i e) (same-pointer l j c is)
+
+middle-false : (a x b : Bool) → a ≡ true → b ≡ true → a && x && b ≡ false → x ≡ false
+middle-false true true true ea eb e = e
+middle-false true false true ea eb e = refl
+middle-false true x false ea eb e = not-both eb
+middle-false false x b ea eb e = not-both ea
+
+last-false : (a b : Bool) → a ≡ true → a && b ≡ false → b ≡ false
+last-false true b ea e = e
+last-false false b ea e = not-both ea
+
+changed-pointer : (e : Event) (s : Chain) (i : ℕ) → verdictOf e s ≡ Accepted → resets i e s ≡ false → isFirstPulse e s && isResponding (selected s) i ≡ false
+    → replaces e s i ≡ true
+    → pointerAt (changed e s) i ≡ pointerAt s i
+unfolding chainFields changed
+changed-pointer (Command j code) s i v none quiet here =
+    put-pointer (s .chips) j i _ here
+    (commanded-pointer code (chipAt s j) (middle-false (eqb j i) (isReset code) _ here (ap isAccepted v) none))
+changed-pointer (Data j byte) s i v none quiet here = put-pointer (s .chips) j i _ here (written-pointer (chipAt s j .destination) byte (chipAt s j))
+changed-pointer (Status j) s i v none quiet here = not-both here
+changed-pointer (Read j) s i v none quiet here = not-both here
+changed-pointer (Line j channel level) s i v none quiet here = put-pointer (s .chips) j i _ here (line-pointer channel (eqb level 1) (chipAt s j))
+changed-pointer (Enable level) s i v none quiet here = not-both here
+changed-pointer Fall s i v none quiet here = not-both (sym (first-answered (isAccepted (verdictOf Fall s)) (isIdle (s .response)) _ (ap isAccepted v) quiet) ∙ here)
+  where
+    first-answered : (ok idle responding : Bool) → ok ≡ true → ok && idle && responding ≡ false → idle && responding ≡ false
+    first-answered true idle responding e quiet = quiet
+    first-answered false idle responding e quiet = not-both e
+changed-pointer Rise s i v none quiet here = risen-pointer (s .response) s i here
+
+judged-pointer : (v : Verdict) (e : Event) (s : Chain) (i : ℕ) → verdictOf e s ≡ v → resets i e s ≡ false → isFirstPulse e s && isResponding (selected s) i ≡ false
+    → replaces e s i ≡ true
+    → pointerAt (judged v e s .chain) i ≡ pointerAt s i
+unfolding chainFields judged accepted refused counted
+judged-pointer (Refused why) e s i is none quiet here = refl
+judged-pointer Accepted e s i is none quiet here = changed-pointer e s i is none quiet here
+
+-- every event but a reset and a first pulse that the chip answers leaves its pointer
+quiet-step : (e : Event) (s : Chain) (i : ℕ) → resets i e s ≡ false → isFirstPulse e s && isResponding (selected s) i ≡ false
+    → pointerAt (eventOf e s .chain) i ≡ pointerAt s i
+unfolding eventOf
+quiet-step e s i none quiet = by (replaces e s i) refl
+  where
+    by : (here : Bool) → replaces e s i ≡ here → pointerAt (eventOf e s .chain) i ≡ pointerAt s i
+    by true here = judged-pointer (verdictOf e s) e s i refl none quiet here
+    by false elsewhere = ap (λ (c : Chip). c .pointer) (events-keep .others-unchanged e s i elsewhere)
+
+-- a first pulse makes the pointer of the chip that answers the channel
+in-list : (l : List Chip) (i : ℕ) → isArmed (getD l i noChip) ≡ true → i < length l
+in-list [] i e = not-both e
+in-list (c ∷ l) zero e = zero-lt-suc _
+in-list (c ∷ l) (suc i) e = suc-le-suc (in-list l i e)
+
+idle-is : (response : Response) → isIdle response ≡ true → response ≡ Idle
+idle-is Idle e = refl
+idle-is (UnderWay r) e = not-both e
+
+response-pointer : (s : Chain) (r : Reply) → isArmed (chipAt s (r .chip)) ≡ true → pointerAt (firstPulse (UnderWay r) s) (r .chip) ≡ r .channel
+unfolding chainFields firstPulse
+response-pointer s r armed =
+    ap (λ (c : Chip). c .pointer) (getD-set-same (s .chips) (r .chip) _ noChip (in-list (s .chips) (r .chip) armed))
+    ∙ answered-pointer (r .channel) (chipAt s (r .chip))
+
+answer-pointer : (s : Chain) (r : Reply) → verdictOf Fall s ≡ Accepted → isIdle (s .response) ≡ true → selected s ≡ UnderWay r
+    → isArmed (chipAt s (r .chip)) ≡ true
+    → pointerAt (eventOf Fall s .chain) (r .chip) ≡ r .channel
+unfolding chainFields eventOf judged accepted counted changed fallen
+answer-pointer s r v idle is armed =
+    subst (λ v. pointerAt (judged v Fall s .chain) (r .chip) ≡ r .channel) (sym v)
+    (subst (λ response. pointerAt (fallen response s) (r .chip) ≡ r .channel) (sym (idle-is (s .response) idle))
+    (subst (λ found. pointerAt (firstPulse found s) (r .chip) ≡ r .channel) (sym is)
+    (response-pointer s r armed)))
+
+-- for another channel than the one that waits, it brings that one nearer
+rotating-last : (mode pointer : ℕ) → bit mode 0 ≡ true → lastOf mode pointer ≡ pointer
+rotating-last mode pointer e = rw e refl
+
+pointer-le : (s : Chain) (i : ℕ) → sound s ≡ true → i < s .count → pointerAt s i ≤ 7
+pointer-le s i e h = leb-true _ 7 (pointer-sound (chipAt s i) (chip-sound s i e h))
+
+other-nearer : (s : Chain) (r : Reply) (channel : ℕ) → sound s ≡ true → r .chip < s .count → channel < 8 → Waiting (chipAt s (r .chip)) channel
+    → verdictOf Fall s ≡ Accepted
+    → isIdle (s .response) ≡ true
+    → selected s ≡ UnderWay r
+    → (r .channel ≡ channel → ⊥)
+    → placeOf (pointerAt (eventOf Fall s .chain) (r .chip)) channel < placeOf (pointerAt s (r .chip)) channel
+other-nearer s r channel e h hc w v idle is other =
+    let c : Chip = chipAt s (r .chip) in
+    let a : Answers s r = selected-answers s r is in
+    let at : r .channel ≡ channelAt (c .pointer) (firstWaiting (c .pointer) (c .irr) (c .imr)) =
+    a .channel
+    ∙ candidate-at (c .irr) (c .imr) (c .isr) (c .mode) (c .pointer) (w .armed) (both-right (not (isPolled c)) _ (a .active))
+    ∙ ap (λ (last : ℕ). channelAt last (firstWaiting last (c .irr) (c .imr))) (rotating-last (c .mode) (c .pointer) (w .rotating)) in
+    subst (λ (p : ℕ). placeOf p channel < placeOf (c .pointer) channel) (sym (answer-pointer s r v idle is (w .armed) ∙ at))
+    (waiting-nearer (c .pointer) (c .irr) (c .imr) channel (pointer-le s (r .chip) e h) hc (w .request) (λ same. other (at ∙ same)))
+
+-- an event that is no answer of the chip for another channel
+no-other : (fp : Bool) (response : Response) (i channel : ℕ) → fp && isResponding response i ≡ false → fp && isForAnother i channel response ≡ false
+no-other false response i channel e = refl
+no-other true Idle i channel e = refl
+no-other true (UnderWay r) i channel e = ap (λ (b : Bool). b && not (eqb (r .channel) channel)) e
+
+is-fall : (e : Event) → isFall e ≡ true → e ≡ Fall
+is-fall (Command i code) e = not-both e
+is-fall (Data i byte) e = not-both e
+is-fall (Status i) e = not-both e
+is-fall (Read i) e = not-both e
+is-fall (Line i channel level) e = not-both e
+is-fall (Enable level) e = not-both e
+is-fall Fall e = refl
+is-fall Rise e = not-both e
+
+-- the parts of a first pulse
+pub record FirstPulse (e : Event) (s : Chain) : Type 0 where
+  pub fall : e ≡ Fall
+  pub accepted-fall : verdictOf e s ≡ Accepted
+  pub idle : isIdle (s .response) ≡ true
+
+pub first-pulse-parts : (e : Event) (s : Chain) → isFirstPulse e s ≡ true → FirstPulse e s
+first-pulse-parts e s h =
+    let ok = both-left (isFall e && isAccepted (verdictOf e s)) _ h in
+    record {
+      fall = is-fall e (both-left (isFall e) _ ok);
+      accepted-fall = accepted-is (verdictOf e s) (both-right (isFall e) _ ok);
+      idle = both-right (isFall e && isAccepted (verdictOf e s)) _ h;
+    }
+
+digit-le : (b : Bool) → digit b ≤ 1
+digit-le true = omega arith
+digit-le false = omega arith
+
+-- one event of a wait: what it answers for others, the request comes nearer
+abbrev Nearer : ℕ → ℕ → Event → Chain → Type 0
+Nearer i channel e s = digit (answersAnother i channel e s) + placeOf (pointerAt (eventOf e s .chain) i) channel ≤ placeOf (pointerAt s i) channel
+
+answered-step : (found : Response) (s : Chain) (i channel : ℕ) → selected s ≡ found → isResponding found i ≡ true → sound s ≡ true → i < s .count → channel < 8
+    → waits (chipAt s i) channel ≡ true
+    → FirstPulse Fall s
+    → isFor i channel found ≡ false
+    → Nearer i channel Fall s
+answered-step Idle s i channel is here = not-both here
+answered-step (UnderWay r) s i channel is here =
+    subst (λ (i : ℕ). sound s ≡ true → i < s .count → channel < 8 → waits (chipAt s i) channel ≡ true → FirstPulse Fall s → isFor i channel (UnderWay r) ≡ false → Nearer i channel Fall s)
+    (eqb-true (r .chip) i here)
+    (λ e h hc w p other.
+    let ahead : placeOf (pointerAt (eventOf Fall s .chain) (r .chip)) channel < placeOf (pointerAt s (r .chip)) channel =
+    other-nearer s r channel e h hc (waiting-parts (chipAt s (r .chip)) channel w) (p .accepted-fall) (p .idle) is
+    (eqb-false (r .channel) channel (last-false (eqb (r .chip) (r .chip)) _ (eq-eqb (r .chip) (r .chip) refl) other)) in
+    let one : digit (answersAnother (r .chip) channel Fall s) ≤ 1 = digit-le (answersAnother (r .chip) channel Fall s) in
+    omega arith)
+
+pub wait-step : (e : Event) (s : Chain) (i channel : ℕ) → sound s ≡ true → i < s .count → channel < 8 → waits (chipAt s i) channel ≡ true → resets i e s ≡ false
+    → answersIt i channel e s ≡ false
+    → Nearer i channel e s
+unfolding answersIt answersAnother
+wait-step e s i channel here h hc w none other = by (isFirstPulse e s && isResponding (selected s) i) refl
+  where
+    still : (b : Bool) (p q : ℕ) → b ≡ false → p ≡ q → digit b + placeOf p channel ≤ placeOf q channel
+    still b p q none same = rw none (rw same (omega arith))
+
+    answered : (p : FirstPulse e s) → isResponding (selected s) i ≡ true → isFor i channel (selected s) ≡ false → Nearer i channel e s
+    answered p is other =
+        subst (λ (e : Event). FirstPulse e s → Nearer i channel e s) (sym (p .fall)) (λ p. answered-step (selected s) s i channel refl is here h hc w p other) p
+
+    by : (b : Bool) → isFirstPulse e s && isResponding (selected s) i ≡ b → Nearer i channel e s
+    by true is =
+        let fp : isFirstPulse e s ≡ true = both-left (isFirstPulse e s) _ is in
+        answered (first-pulse-parts e s fp) (both-right (isFirstPulse e s) _ is) (last-false (isFirstPulse e s) _ fp other)
+    by false is = still _ _ _ (no-other (isFirstPulse e s) (selected s) i channel is) (quiet-step e s i none is)
+
+-- a first pulse that counts is answered by the chip
+pub counted-answered : (e : Event) (s : Chain) (i channel : ℕ) → sound s ≡ true → i < s .count → channel < 8 → waits (chipAt s i) channel ≡ true
+    → isCounted i e s ≡ true
+    → answersIt i channel e s ≡ false
+    → answersAnother i channel e s ≡ true
+unfolding answersIt answersAnother isCounted reaches
+counted-answered e s i channel here h hc w counts other =
+    let c : Chip = chipAt s i in
+    let p : Waiting c channel = waiting-parts c channel w in
+    let before = both-left (isFirstPulse e s && reaches i s) _ counts in
+    let fp : isFirstPulse e s ≡ true = both-left (isFirstPulse e s) _ before in
+    let there : reaches i s ≡ true = both-right (isFirstPulse e s) _ before in
+    let empty : c .isr ≡ 0 = eqb-true (c .isr) 0 (both-right (isFirstPulse e s && reaches i s) _ counts) in
+    let none = both-right (isIdle (s .response) && s .enable && every i (λ j. isArmed (chipAt s j))) _ there in
+    let three = both-left (isIdle (s .response) && s .enable && every i (λ j. isArmed (chipAt s j))) _ there in
+    let armed = both-right (isIdle (s .response) && s .enable) _ three in
+    let two = both-left (isIdle (s .response) && s .enable) _ three in
+    let last : lastOf (c .mode) (c .pointer) ≡ c .pointer = rotating-last (c .mode) (c .pointer) (p .rotating) in
+    let close : firstWaiting (c .pointer) (c .irr) (c .imr) ≤ placeOf (c .pointer) channel =
+    waiting-before (c .pointer) (c .irr) (c .imr) channel (pointer-le s i here h) hc (p .request) in
+    let within : firstWaiting (lastOf (c .mode) (c .pointer)) (c .irr) (c .imr) < 8 =
+    subst (λ (last : ℕ). firstWaiting last (c .irr) (c .imr) < 8) (sym last) (lt-of-le-of-lt close (mod-lt _ (lit< tt))) in
+    let found : exists (candidateOf c) ≡ true =
+    ap (λ (isr : ℕ). exists (candidate (c .irr) (c .imr) isr (c .mode) (c .pointer))) empty
+    ∙ candidate-exists (c .irr) (c .imr) (c .mode) (c .pointer) (p .armed) within in
+    let is : selected s ≡ UnderWay (replyOf i c) =
+    reached-selected s i h
+    (ei-high s i (both-left (isIdle (s .response)) _ two) (both-right (isIdle (s .response)) _ two) (every-each i (λ j. isArmed (chipAt s j)) armed))
+    (simp (p .interrupt, found))
+    (λ j l. not-true (gintActive (chipAt s j)) (every-each i (λ j. not (gintActive (chipAt s j))) none j l)) in
+    subst (λ found. isFirstPulse e s && isFor i channel found ≡ false → isFirstPulse e s && isForAnother i channel found ≡ true) (sym is)
+    (either (isFirstPulse e s) (eqb i i) _ fp (eq-eqb i i refl))
+    other
+  where
+    either : (fp same it : Bool) → fp ≡ true → same ≡ true → fp && (same && it) ≡ false → fp && (same && not it) ≡ true
+    either true true true ef es e = not-both (sym e)
+    either true true false ef es e = refl
+    either true false it ef es e = not-both es
+    either false same it ef es e = not-both ef

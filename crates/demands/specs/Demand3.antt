@@ -1,0 +1,36 @@
+-- The third demand: in rotating priority no request is passed over for long. Its words (a wait, an answer for another channel, a first pulse that
+-- reaches the chip with its in-service register empty) are defined in Wait, over the rules of the model.
+--
+-- It speaks of every sound chain, every list of events, refused ones included, every chip in the count and every channel.
+use mathlib.Core.Bool.{true}
+use mathlib.Core.List.{List}
+use mathlib.Core.Path.{_≡_}
+use Prim.Native.Nat.{ℕ, _≤_, _<_}
+use Rattle.chain.specs.Fields.{chipAt}
+use Rattle.chain.specs.Sound.{sound}
+use Rattle.chain.specs.declared.Chain.{Chain}
+use Rattle.chain.specs.declared.Event.{Event}
+use Rattle.demands.specs.Along.{after}
+use Rattle.demands.specs.Wait.{waits, isWait, answersIt, others, isCounted, pulses}
+use Rattle.demands.specs.Worked.{WorkedWait, RefusedFalls}
+
+-- a list of events through which a request waits
+pub record Waited (s : Chain) (i channel : ℕ) (es : List Event) : Type 0 where
+  pub sound-chain : sound s ≡ true
+  pub in-the-count : i < s .count
+  pub a-channel : channel < 8
+  pub waits-through : isWait i channel s es ≡ true
+
+pub record Demand3 : Type 0 where
+  -- while the request waits, the chip answers at most seven acknowledges for its other channels
+  pub at-most-seven : (s : Chain) (i channel : ℕ) (es : List Event) → Waited s i channel es → others i channel s es ≤ 7
+  -- at most seven first pulses that reach the chip with its in-service register empty leave the request waiting
+  pub no-eighth : (s : Chain) (i channel : ℕ) (es : List Event) → Waited s i channel es → pulses i s es ≤ 7
+  -- so the eighth, at the latest, answers it
+  pub by-the-eighth : (s : Chain) (i channel : ℕ) (es : List Event) → Waited s i channel es → pulses i s es ≡ 7
+      → (e : Event) → waits (chipAt (after s es) i) channel ≡ true → isCounted i e (after s es) ≡ true
+      → answersIt i channel e (after s es) ≡ true
+  -- neither bound can be made less: seven others are answered first, and the eighth counted pulse answers the request
+  pub tight : WorkedWait
+  -- a refused fall is no first pulse, and no number of them ends a wait
+  pub refused-falls : RefusedFalls
