@@ -76,18 +76,6 @@ come s i channel (e ∷ es) w =
 seven : (s : Chain) (i channel : ℕ) → placeOf (pointerAt s i) channel < 8
 seven s i channel = mod-lt _ (lit< tt)
 
-others-seven : (s : Chain) (i channel : ℕ) (es : List Event) → Waited s i channel es → others i channel s es ≤ 7
-others-seven s i channel es w =
-    let so-far = come s i channel es w .others-le in
-    let place = seven s i channel in
-    omega (arith, so-far, place)
-
-pulses-seven : (s : Chain) (i channel : ℕ) (es : List Event) → Waited s i channel es → pulses i s es ≤ 7
-pulses-seven s i channel es w =
-    let few = come s i channel es w .pulses-le in
-    let most = others-seven s i channel es w in
-    omega (arith, few, most)
-
 -- a chain at the end of a wait
 end : (s : Chain) (i channel : ℕ) (es : List Event) → Waited s i channel es → Waited (after s es) i channel []
 unfolding after isWait
@@ -98,7 +86,7 @@ resets-none : (e : Event) (s : Chain) (i : ℕ) → e ≡ Fall → resets i e s 
 resets-none e s i is = subst (λ (e : Event). resets i e s ≡ false) (sym is) refl
 
 -- after seven counted pulses the request stands first: another counted one cannot be answered for another channel
-eighth : (s : Chain) (i channel : ℕ) (es : List Event) → Waited s i channel es → pulses i s es ≡ 7
+eighth : (s : Chain) (i channel : ℕ) (es : List Event) → Waited s i channel es → 7 ≤ pulses i s es
     → (e : Event) → waits (chipAt (after s es) i) channel ≡ true → isCounted i e (after s es) ≡ true
     → answersIt i channel e (after s es) ≡ true
 unfolding isCounted
@@ -125,9 +113,13 @@ eighth s i channel es w seventh e still counts = by (answersIt i channel e (afte
 pub demand-3 : Demand3
 demand-3 =
     record {
-      at-most-seven = others-seven;
-      no-eighth = pulses-seven;
-      by-the-eighth = eighth;
+      at-most-seven = λ s i channel es w. let far = come s i channel es w .others-le in let place = seven s i channel in omega (arith, far, place);
+      no-eighth = λ s i channel es w.
+          let few = come s i channel es w .pulses-le in
+          let far = come s i channel es w .others-le in
+          let place = seven s i channel in
+          omega (arith, few, far, place);
+      by-the-eighth = λ s i channel es w seventh. eighth s i channel es w (omega (arith, seventh));
       tight = worked;
       refused-falls = refused-falls;
     }

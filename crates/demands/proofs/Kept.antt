@@ -153,7 +153,7 @@ unfolding fallAnswer
 fall-zero Idle s = driven-zero (selected s) s
 fall-zero (UnderWay r) s = refl
 
-answers-zero : (e : Event) (s : Chain) → handed (answerOf e s) .number ≡ 0
+pub answers-zero : (e : Event) (s : Chain) → handed (answerOf e s) .number ≡ 0
 answers-zero (Command i code) s = refl
 answers-zero (Data i byte) s = refl
 answers-zero (Status i) s = refl
@@ -162,12 +162,6 @@ answers-zero (Line i channel level) s = refl
 answers-zero (Enable level) s = refl
 answers-zero Fall s = fall-zero (s .response) s
 answers-zero Rise s = refl
-
--- a refused event leaves the chain
-as-given : (v : Verdict) (e : Event) (s : Chain) → (handed (judged v e s .answer) .number ≡ 0 → ⊥) → judged v e s .chain ≡ s
-unfolding judged accepted refused
-as-given (Refused why) e s other = refl
-as-given Accepted e s other = absurd (other (answers-zero e s))
 
 -- the event number along a list
 pub no-event : (n : ℕ) → n < 65536 → n ≡ (n + 0) % 65536
@@ -215,5 +209,4 @@ events-keep =
       records-kept = λ e s. beside e s .records;
       zero-is-accepted = λ e s. zero-judged (verdictOf e s) e s;
       number-counts = number;
-      refused-as-given = λ e s other. as-given (verdictOf e s) e s other;
     }

@@ -8,7 +8,7 @@ use mathlib.Core.Path.{_≡_, refl, ap, sym, subst, _∙_}
 use Prim.Native.Nat.{ℕ, zero, suc, _+_, _≤_, _<_, suc-le-suc}
 use native.Mathlib.Nat.{zero-lt-suc, lt-of-le-of-lt, mod-lt}
 use native.Mathlib.Omega.{arith}
-use lib.Dec.{T, eqb, ltb, lit<}
+use lib.Dec.{eqb, lit<}
 use lib.ListN.{getD, set, length}
 use lib.Seq.{getD-set-same}
 use borrow.Author.Tests.{eqb-true, eqb-false, eq-eqb, not-true, leb-true}
@@ -45,7 +45,7 @@ use Rattle.chain.specs.declared.Reply.{Reply}
 use Rattle.chain.specs.declared.Response.{Response}
 use Rattle.chain.specs.declared.Response.the-variants.{Idle, UnderWay}
 use Rattle.demands.specs.Kept.{replaces}
-use Rattle.demands.specs.Wait.{waits, isFall, isFirstPulse, isFor, isForAnother, answersIt, answersAnother, isResetOf, resets, reaches, isCounted}
+use Rattle.demands.specs.Wait.{waits, isFall, isFirstPulse, isFor, isForAnother, answersIt, answersAnother, resets, reaches, isCounted}
 use Rattle.demands.proofs.Kept.{events-keep}
 
 -- what a waiting request says of its chip

@@ -1,5 +1,5 @@
 -- What the events keep (document 01, "A chip" and "Numbers handed back"): a sound chain stays sound, an event replaces at most one chip and
--- leaves the others, also those past the count, a refused one leaves everything, and the event number counts the accepted ones.
+-- leaves the others, also those past the count, and the event number counts the accepted ones. (What a refused one leaves: Unchanged.)
 use mathlib.Core.Bool.{Bool, true, false, _&&_}
 use mathlib.Core.List.{List}
 use mathlib.Core.Path.{_≡_}
@@ -42,8 +42,6 @@ pub record Kept : Type 0 where
   pub past-the-count : (e : Event) (s : Chain) (k : ℕ) → s .count ≤ k → chipAt (eventOf e s .chain) k ≡ chipAt s k
   pub count-kept : (e : Event) (s : Chain) → eventOf e s .chain .count ≡ s .count
   pub records-kept : (e : Event) (s : Chain) → length (eventOf e s .chain .chips) ≡ length (s .chips)
-  -- a refused event hands back the chain as given
-  pub refused-as-given : (e : Event) (s : Chain) → (handed (eventOf e s .answer) .number ≡ 0 → ⊥) → eventOf e s .chain ≡ s
   -- the number 0 is handed back exactly where the verdict is accepted
   pub zero-is-accepted : (e : Event) (s : Chain) → accepts e s ≡ isAccepted (verdictOf e s)
   -- the event number is the number before plus the accepted events, modulo 65,536

@@ -1,10 +1,17 @@
+pub mod Agree
 pub mod Along
 pub mod Bench
 pub mod Cases
 pub mod Corners
+pub mod Demand1
+pub mod Demand2
 pub mod Demand3
 pub mod Kept
 pub mod Misread
+pub mod Outcomes
+pub mod Rules
 pub mod Runs
+pub mod Table
+pub mod Unchanged
 pub mod Wait
 pub mod Worked

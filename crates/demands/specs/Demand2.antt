@@ -1,0 +1,22 @@
+-- The second demand: the model is the Am9519A by the rules, after every accepted event, for one to eight chips; and picture and table of one state agree.
+use Rattle.demands.specs.Agree.{Agreement}
+use Rattle.demands.specs.Cases.{cases, Hold}
+use Rattle.demands.specs.Corners.{corners}
+use Rattle.demands.specs.Kept.{Kept}
+use Rattle.demands.specs.Misread.{misreadings}
+use Rattle.demands.specs.Rules.{ByTheRules}
+use Rattle.demands.specs.Runs.{Runs}
+
+pub record Demand2 : Type 0 where
+  -- the rules are those of the paper: its bench cases K1 to K12 come out as written, none of its five misreadings does, and eight corners go as decided
+  pub bench : Hold cases
+  pub not-misread : Hold misreadings
+  pub cornered : Hold corners
+  -- an accepted event answers and changes the chain by its rule; the two views show each register, the status byte and each pin by its rule
+  pub by-the-rules : ByTheRules
+  -- a sound chain stays sound, all chips but at most one are unchanged, records past the count never change, the event number counts accepted events
+  pub kept : Kept
+  -- a run accepts the events before its limit, its end or its first refusal, and reports how many
+  pub runs : Runs
+  -- picture and table of one state always agree
+  pub agreement : Agreement

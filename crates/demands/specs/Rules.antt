@@ -1,0 +1,49 @@
+-- What an accepted event and the two views give: what the rules of the model say, and nothing else.
+use mathlib.Core.Bool.{Bool, true, not, _&&_}
+use mathlib.Core.Path.{_≡_}
+use Prim.Native.Nat.{ℕ, _+_, _%_, _<_}
+use Rattle.bits.specs.Below.{digit}
+use Rattle.bits.specs.Byte.{bit}
+use Rattle.search.specs.Candidate.{exists, channelOf}
+use Rattle.chip.specs.Status.{isArmed, isPolled, isRotating, candidateOf, statusByte}
+use Rattle.chip.specs.declared.Chip.{Chip}
+use Rattle.chain.specs.Answers.{handed, tabled}
+use Rattle.chain.specs.Events.{answerOf, changed, accepted, eventOf}
+use Rattle.chain.specs.Sound.{sound}
+use Rattle.chain.specs.Views.{tableOf, pictureOf, registerView, pinView}
+use Rattle.chain.specs.declared.Chain.{Chain}
+use Rattle.chain.specs.declared.Event.{Event}
+use Rattle.chain.specs.declared.Event.the-variants.{Status}
+use Rattle.chain.specs.declared.PinView.the-variants.{Picture}
+use Rattle.chain.specs.declared.RegisterView.the-variants.{Table}
+use Rattle.chain.specs.declared.Registers.{Registers}
+use Rattle.demands.specs.Along.{accepts}
+
+-- the bits of a chip's status byte, with its EI at a level
+pub record StatusBits (c : Chip) (ei : Bool) : Type 0 where
+  pub s2-to-s0 : statusByte c ei % 8 ≡ channelOf (candidateOf c)
+  pub s3 : bit (statusByte c ei) 3 ≡ isArmed c
+  pub s4 : bit (statusByte c ei) 4 ≡ isPolled c
+  pub s5 : bit (statusByte c ei) 5 ≡ isRotating c
+  pub s6 : bit (statusByte c ei) 6 ≡ ei
+  pub s7 : bit (statusByte c ei) 7 ≡ exists (candidateOf c)
+
+-- 1 if a channel is set in the table's IRR and clear in its IMR, else 0
+abbrev pub waitsIn : Registers → ℕ → ℕ
+waitsIn r channel = digit (bit (r .irr) channel && not (bit (r .imr) channel))
+
+pub record ByTheRules : Type 0 where
+  -- an accepted event answers by its rule, and leaves the chain of its rule, counted: each register and each response byte
+  pub event : (e : Event) (s : Chain) → accepts e s ≡ true → eventOf e s ≡ accepted (answerOf e s) (changed e s)
+  -- the views of a chip in the count of a sound chain are given: each register, the status byte and each pin, with the chain's event number
+  pub table : (s : Chain) (chip : ℕ) → sound s ≡ true → chip < s .count → registerView chip s ≡ Table (tableOf chip s)
+  pub picture : (s : Chain) (chip : ℕ) → sound s ≡ true → chip < s .count → pinView chip s ≡ Picture (pictureOf chip s)
+  -- the status byte that is read is that of the table of the same state, and has these bits
+  pub status-read : (s : Chain) (chip : ℕ) → accepts (Status chip) s ≡ true
+      → handed (eventOf (Status chip) s .answer) .byte ≡ tabled (registerView chip s) .registers .status
+  pub status-bits : (c : Chip) (ei : Bool) → StatusBits c ei
+  -- the waiting number is a sum over the eight channels of the table's own IRR and IMR
+  pub waiting-is-a-sum : (s : Chain) (chip : ℕ)
+      → tableOf chip s .waiting
+      ≡ waitsIn (tableOf chip s) 0 + waitsIn (tableOf chip s) 1 + waitsIn (tableOf chip s) 2 + waitsIn (tableOf chip s) 3
+      + waitsIn (tableOf chip s) 4 + waitsIn (tableOf chip s) 5 + waitsIn (tableOf chip s) 6 + waitsIn (tableOf chip s) 7
