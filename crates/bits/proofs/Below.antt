@@ -5,8 +5,13 @@ use mathlib.Core.Logic.{⊎-elim}
 use mathlib.Core.Bool.{Bool, true, false, cond, _&&_, Bool·beq}
 use Prim.Native.Nat.{ℕ, zero, suc, _+_, _≤_, _<_, zero-le, suc-le-suc}
 use native.Mathlib.Nat.{le-of-suc-le-suc, not-suc-le-zero, eq-or-lt-of-le, zero-lt-suc, le-refl, le-step}
-use lib.Dec.{T}
+use lib.Dec.{T, lit<}
 use Rattle.bits.specs.Below.{digit, howMany, every, first}
+
+-- a digit is 0 or 1
+pub digit-lt : (b : Bool) → digit b < 2
+digit-lt true = lit< tt
+digit-lt false = lit< tt
 
 -- the two parts of an `and`
 pub both-left : (a b : Bool) → a && b ≡ true → a ≡ true

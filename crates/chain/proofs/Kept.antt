@@ -195,7 +195,7 @@ started-sound count fill within =
     whole (started count fill) (started-parts count fill within)
 
 -- what holds of both outcomes of a test holds of the one that it picks
-either : (P : Outcome → Type 0) (b : Bool) (x y : Outcome) → (b ≡ true → P x) → (b ≡ false → P y) → P (cond b x y)
+pub either : (P : Outcome → Type 0) (b : Bool) (x y : Outcome) → (b ≡ true → P x) → (b ≡ false → P y) → P (cond b x y)
 either P true x y holds fails = holds refl
 either P false x y holds fails = fails refl
 

@@ -11,7 +11,7 @@ use lib.Dec.{lit<}
 use borrow.Author.Tests.{not-true}
 use Rattle.bits.proofs.Below.{both-left, both-right}
 use Rattle.bits.specs.Below.{digit}
-use Rattle.search.proofs.Order.{placeOf}
+use Rattle.search.proofs.Rotating.{placeOf}
 use Rattle.chain.specs.Events.{eventOf}
 use Rattle.chain.specs.Fields.{chipAt}
 use Rattle.chain.specs.declared.Chain.{Chain}
@@ -22,7 +22,7 @@ use Rattle.demands.specs.Demand3.{Waited, Demand3}
 use Rattle.demands.specs.Wait.{waits, resets, isWait, isFirstPulse, answersIt, answersAnother, others, reaches, isCounted, pulses}
 use Rattle.demands.proofs.Kept.{events-keep}
 use Rattle.demands.proofs.Wait.{pointerAt, first-pulse-parts, wait-step, counted-answered}
-use Rattle.demands.proofs.Worked.{worked, refused-falls}
+use Rattle.demands.proofs.Worked.{worked, behind-others, refused-falls}
 
 -- the first event of a wait, and the wait after it
 record Begins (s : Chain) (i channel : ℕ) (e : Event) (es : List Event) : Type 0 where
@@ -121,5 +121,6 @@ demand-3 =
           omega (arith, few, far, place);
       by-the-eighth = λ s i channel es w seventh. eighth s i channel es w (omega (arith, seventh));
       tight = worked;
+      behind-others = behind-others;
       refused-falls = refused-falls;
     }

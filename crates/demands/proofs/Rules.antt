@@ -6,6 +6,7 @@ use Prim.Native.Nat.{ℕ, _+_, _*_, _/_, _%_, _<_}
 use native.Mathlib.Omega.{arith}
 use lib.Dec.{eqb}
 use borrow.Author.Tests.{lt-leb, ltb-true}
+use Rattle.bits.proofs.Below.{digit-lt}
 use Rattle.bits.specs.Below.{digit, howMany}
 use Rattle.bits.specs.Byte.{isWaiting}
 use Rattle.search.proofs.Order.{candidate-lt}
@@ -65,10 +66,6 @@ digits : (channel a p r e x : ℕ) → channel < 8 → a < 2 → p < 2 → r < 2
     → Digits channel a p r e x (channel + 8 * a + 16 * p + 32 * r + 64 * e + 128 * x)
 digits channel a p r e x h ha hp hr he hx =
     record { s2-to-s0 = omega arith; s3 = omega arith; s4 = omega arith; s5 = omega arith; s6 = omega arith; s7 = omega arith }
-
-digit-lt : (b : Bool) → digit b < 2
-digit-lt true = omega arith
-digit-lt false = omega arith
 
 -- a digit read as a test
 is-digit : (n : ℕ) (b : Bool) → n ≡ digit b → eqb n 1 ≡ b

@@ -16,6 +16,7 @@ use Rattle.refusal.specs.Numbers.{refusalNumber, verdictNumber, isAccepted, fir
 use Rattle.refusal.specs.declared.Refusal.{Refusal}
 use Rattle.refusal.specs.declared.Verdict.{Verdict}
 use Rattle.refusal.specs.declared.Verdict.the-variants.{Accepted}
+use Rattle.chain.proofs.Kept.{either}
 use Rattle.chain.specs.Answers.{verdictIn, handed, tabled, pictured}
 use Rattle.chain.specs.Events.{accepted, refused, judged, eventOf}
 use Rattle.chain.specs.Refusals.{notSound, noSuchChip, checks, verdictOf}
@@ -72,12 +73,10 @@ event-number e s = judged-number (verdictOf e s) e s ∙ first-given (notSound s
 -- a start
 start-number : (count fill : ℕ) → handed (startOf count fill .answer) .number ≡ given ((1, not (countSound count)) ∷ [])
 unfolding startOf
-start-number count fill = by (countSound count) _ _ refl refl
-  where
-    by : (within : Bool) (x y : Outcome) → handed (x .answer) .number ≡ 0 → handed (y .answer) .number ≡ 1
-        → handed (cond within x y .answer) .number ≡ given ((1, not within) ∷ [])
-    by true x y at-0 at-1 = at-0
-    by false x y at-0 at-1 = at-1
+start-number count fill =
+    either (λ (o : Outcome). handed (o .answer) .number ≡ given ((1, not (countSound count)) ∷ [])) (countSound count) _ _
+    (λ within. rw within refl)
+    (λ outside. rw outside refl)
 
 -- the views
 table-number : (v : Verdict) (r : Registers) → tabled (tableOr v r) .number ≡ verdictNumber v

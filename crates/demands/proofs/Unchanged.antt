@@ -1,6 +1,6 @@
 -- What a refusal leaves as it was, proved: for an event, a start and the views by the verdict, for a run event by event.
 -- Assumes nothing.
-use mathlib.Core.Bool.{Bool, true, false, cond}
+use mathlib.Core.Bool.{true}
 use mathlib.Core.List.{List}
 use mathlib.Core.Path.{_≡_, refl, ap, sym, _∙_}
 use Prim.Native.Nat.{ℕ, _+_, _*_, _≤_, min}
@@ -10,6 +10,7 @@ use lib.Seq.{getD-set-other}
 use Rattle.refusal.specs.Numbers.{isAccepted}
 use Rattle.refusal.specs.declared.Verdict.{Verdict}
 use Rattle.refusal.specs.declared.Verdict.the-variants.{Accepted, Refused}
+use Rattle.chain.proofs.Kept.{either}
 use Rattle.chain.specs.Answers.{Handed, handed, tabled, pictured}
 use Rattle.chain.specs.Events.{accepted, refused, judged, eventOf}
 use Rattle.chain.specs.Fields.{zeroChain}
@@ -46,12 +47,10 @@ no-byte Accepted e s other = absurd (other (answers-zero e s))
 -- a start
 no-start : (count fill : ℕ) → (handed (startOf count fill .answer) .number ≡ 0 → ⊥) → startOf count fill .chain ≡ zeroChain
 unfolding startOf
-no-start count fill = by (countSound count) _ _ refl refl
-  where
-    by : (within : Bool) (x y : Outcome) → handed (x .answer) .number ≡ 0 → y .chain ≡ zeroChain
-        → (handed (cond within x y .answer) .number ≡ 0 → ⊥) → cond within x y .chain ≡ zeroChain
-    by true x y zero is other = absurd (other zero)
-    by false x y zero is other = is
+no-start count fill =
+    either (λ (o : Outcome). (handed (o .answer) .number ≡ 0 → ⊥) → o .chain ≡ zeroChain) (countSound count) _ _
+    (λ within other. absurd (other refl))
+    (λ outside other. refl)
 
 -- a view
 no-table : (v : Verdict) (r : Registers) → (tabled (tableOr v r) .number ≡ 0 → ⊥)

@@ -12,11 +12,11 @@ use lib.Dec.{eqb, lit<}
 use lib.ListN.{getD, set, length}
 use lib.Seq.{getD-set-same}
 use borrow.Author.Tests.{eqb-true, eqb-false, eq-eqb, not-true, leb-true}
-use Rattle.bits.proofs.Below.{both-left, both-right, every-each}
+use Rattle.bits.proofs.Below.{digit-lt, both-left, both-right, every-each}
 use Rattle.bits.proofs.Stored.{stored}
 use Rattle.bits.specs.Below.{digit, every}
 use Rattle.bits.specs.Byte.{bit, isWaiting}
-use Rattle.search.proofs.Order.{placeOf, candidate-at, candidate-exists, waiting-before, waiting-nearer}
+use Rattle.search.proofs.Rotating.{placeOf, candidate-at, candidate-exists, waiting-before, waiting-nearer}
 use Rattle.search.specs.Candidate.{candidate, exists}
 use Rattle.search.specs.Order.{lastOf, channelAt, firstWaiting}
 use Rattle.refusal.proofs.Numbers.{not-both, accepted-is}
@@ -218,10 +218,6 @@ first-pulse-parts e s h =
       idle = both-right (isFall e && isAccepted (verdictOf e s)) _ h;
     }
 
-digit-le : (b : Bool) → digit b ≤ 1
-digit-le true = omega arith
-digit-le false = omega arith
-
 -- one event of a wait: what it answers for others, the request comes nearer
 abbrev Nearer : ℕ → ℕ → Event → Chain → Type 0
 Nearer i channel e s = digit (answersAnother i channel e s) + placeOf (pointerAt (eventOf e s .chain) i) channel ≤ placeOf (pointerAt s i) channel
@@ -239,7 +235,7 @@ answered-step (UnderWay r) s i channel is here =
     let ahead : placeOf (pointerAt (eventOf Fall s .chain) (r .chip)) channel < placeOf (pointerAt s (r .chip)) channel =
     other-nearer s r channel e h hc (waiting-parts (chipAt s (r .chip)) channel w) (p .accepted-fall) (p .idle) is
     (eqb-false (r .channel) channel (last-false (eqb (r .chip) (r .chip)) _ (eq-eqb (r .chip) (r .chip) refl) other)) in
-    let one : digit (answersAnother (r .chip) channel Fall s) ≤ 1 = digit-le (answersAnother (r .chip) channel Fall s) in
+    let one : digit (answersAnother (r .chip) channel Fall s) < 2 = digit-lt (answersAnother (r .chip) channel Fall s) in
     omega arith)
 
 pub wait-step : (e : Event) (s : Chain) (i channel : ℕ) → sound s ≡ true → i < s .count → channel < 8 → waits (chipAt s i) channel ≡ true → resets i e s ≡ false

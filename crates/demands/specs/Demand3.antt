@@ -12,7 +12,7 @@ use Rattle.chain.specs.declared.Chain.{Chain}
 use Rattle.chain.specs.declared.Event.{Event}
 use Rattle.demands.specs.Along.{after}
 use Rattle.demands.specs.Wait.{waits, isWait, answersIt, others, isCounted, pulses}
-use Rattle.demands.specs.Worked.{WorkedWait, RefusedFalls}
+use Rattle.demands.specs.Worked.{WorkedWait, BehindOthers, RefusedFalls}
 
 -- a list of events through which a request waits
 pub record Waited (s : Chain) (i channel : ℕ) (es : List Event) : Type 0 where
@@ -32,5 +32,7 @@ pub record Demand3 : Type 0 where
       → answersIt i channel e (after s es) ≡ true
   -- neither bound can be made less: seven others are answered first, and the eighth counted pulse answers the request
   pub tight : WorkedWait
+  -- also behind other chips, the first of them polled
+  pub behind-others : BehindOthers
   -- a refused fall is no first pulse, and no number of them ends a wait
   pub refused-falls : RefusedFalls

@@ -1,8 +1,9 @@
--- Two waits of the third demand, computed: one in which the chip answers its seven other channels first and the eighth counted pulse answers the
--- request; and one through falls that are all refused.
-use mathlib.Core.Bool.{true}
+-- Waits of the third demand, computed: one in which the chip answers its seven other channels first and the eighth counted pulse answers the
+-- request; the same behind two other chips; and one through falls that are all refused.
+use mathlib.Core.Bool.{true, false}
 use mathlib.Core.List.{List, [], _∷_, _++_}
 use mathlib.Core.Path.{_≡_}
+use Prim.Native.Nat.{ℕ}
 use Rattle.chain.specs.Fields.{chipAt}
 use Rattle.chain.specs.Start.{startOf}
 use Rattle.chain.specs.declared.Chain.{Chain}
@@ -11,11 +12,12 @@ use Rattle.chain.specs.declared.Event.the-variants.{Command, Data, Enable, Fall
 use Rattle.demands.specs.Along.{after, acceptedIn}
 use Rattle.demands.specs.Wait.{answersIt, isWait, reaches, isCounted, others, pulses}
 
--- rotating, armed, all unmasked and auto clear, all eight channels pending; the pointer is 7
+-- chip i rotating, armed, all unmasked and auto clear, all eight channels pending; its pointer is 7 from the start
+abbrev pub ready : ℕ → List Event
+ready i = Command i 0x81 ∷ Command i 0xA1 ∷ Command i 0x20 ∷ Command i 0xC0 ∷ Data i 0xFF ∷ Command i 0x50 ∷ []
+
 unfoldable pub allPending : Chain
-allPending =
-    after (startOf 1 0 .chain)
-    (Command 0 0x81 ∷ Command 0 0xA1 ∷ Command 0 0x20 ∷ Command 0 0xC0 ∷ Data 0 0xFF ∷ Command 0 0x50 ∷ [])
+allPending = after (startOf 1 0 .chain) (ready 0)
 
 abbrev pub pulse : List Event
 pulse = Fall ∷ Rise ∷ []
@@ -30,6 +32,23 @@ pub record WorkedWait : Type 0 where
   pub seven-counted : pulses 0 allPending sevenPulses ≡ 7
   pub eighth-counted : isCounted 0 Fall (after allPending sevenPulses) ≡ true
   pub eighth-answers : answersIt 0 7 Fall (after allPending sevenPulses) ≡ true
+
+-- the same chip as the third of a chain: the first is polled and has a request, which it never answers; the second has one, which it answers first
+unfoldable pub thirdOfThree : Chain
+thirdOfThree =
+    after (startOf 3 0 .chain)
+    (Command 0 0x84 ∷ Command 0 0xA1 ∷ Command 0 0x20 ∷ Command 0 0x58
+    ∷ Command 1 0xA1 ∷ Command 1 0x20 ∷ Command 1 0x58
+    ∷ ready 2)
+
+-- the first pulse does not reach the third chip; then it goes as with one chip alone
+pub record BehindOthers : Type 0 where
+  pub not-reached : reaches 2 thirdOfThree ≡ false
+  pub waits-through : isWait 2 7 thirdOfThree (pulse ++ sevenPulses) ≡ true
+  pub seven-others : others 2 7 thirdOfThree (pulse ++ sevenPulses) ≡ 7
+  pub seven-counted : pulses 2 thirdOfThree (pulse ++ sevenPulses) ≡ 7
+  pub eighth-counted : isCounted 2 Fall (after thirdOfThree (pulse ++ sevenPulses)) ≡ true
+  pub eighth-answers : answersIt 2 7 Fall (after thirdOfThree (pulse ++ sevenPulses)) ≡ true
 
 -- Enable In was low when IACK fell, and is high again: the pulse has stalled, and IACK is low still
 unfoldable pub stalled : Chain
