@@ -2,7 +2,7 @@
 -- Assumes nothing.
 use mathlib.Core.Path.{_≡_, refl, ap, ap₂, sym, subst, _∙_}
 use mathlib.Core.Logic.{⊎-elim}
-use mathlib.Core.Bool.{Bool, true, false, cond, _&&_, Bool·beq}
+use mathlib.Core.Bool.{Bool, true, false, cond, _&&_, Bool·beq, false≢true}
 use Prim.Native.Nat.{ℕ, zero, suc, _+_, _≤_, _<_, zero-le, suc-le-suc}
 use native.Mathlib.Nat.{le-of-suc-le-suc, not-suc-le-zero, eq-or-lt-of-le, zero-lt-suc, le-refl, le-step}
 use lib.Dec.{T, lit<}
@@ -13,6 +13,11 @@ pub digit-lt : (b : Bool) → digit b < 2
 digit-lt true = lit< tt
 digit-lt false = lit< tt
 
+-- what holds of both that a test picks from holds of the one that it picks
+pub either : {A : Type 0} (P : A → Type 0) (b : Bool) (x y : A) → (b ≡ true → P x) → (b ≡ false → P y) → P (cond b x y)
+either P true x y holds fails = holds refl
+either P false x y holds fails = fails refl
+
 -- the two parts of an `and`
 pub both-left : (a b : Bool) → a && b ≡ true → a ≡ true
 both-left true b e = refl
@@ -20,7 +25,7 @@ both-left false b e = e
 
 pub both-right : (a b : Bool) → a && b ≡ true → b ≡ true
 both-right true b e = e
-both-right false b e = absurd (subst T (sym e) tt)
+both-right false b e = absurd (false≢true e)
 
 pub both-not : (a b : Bool) → b ≡ false → a && b ≡ false
 both-not true b e = e

@@ -9,7 +9,7 @@ use native.Mathlib.Nat.{lt-of-lt-of-le}
 use lib.Dec.{eqb, leb}
 use lib.ListN.{getD, replicate, getD-replicate}
 use borrow.Author.Tests.{leb-true, lt-ltb, le-leb, eqb-false}
-use Rattle.bits.proofs.Below.{both-left, both-right, every-all}
+use Rattle.bits.proofs.Below.{either, both-left, both-right, every-all}
 use Rattle.bits.proofs.Stored.{stored}
 use Rattle.refusal.proofs.Numbers.{not-zero}
 use Rattle.refusal.specs.declared.Refusal.the-variants.{NotSound}
@@ -193,11 +193,6 @@ started-parts count fill within =
 started-sound : (count fill : ℕ) → countSound count ≡ true → sound (started count fill) ≡ true
 started-sound count fill within =
     whole (started count fill) (started-parts count fill within)
-
--- what holds of both outcomes of a test holds of the one that it picks
-pub either : (P : Outcome → Type 0) (b : Bool) (x y : Outcome) → (b ≡ true → P x) → (b ≡ false → P y) → P (cond b x y)
-either P true x y holds fails = holds refl
-either P false x y holds fails = fails refl
 
 pub start-sound : (count fill : ℕ) → handed (startOf count fill .answer) .number ≡ 0 → sound (startOf count fill .chain) ≡ true
 unfolding startOf

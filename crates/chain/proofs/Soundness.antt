@@ -1,10 +1,10 @@
 -- What a sound chain's record says of each of its parts, and of the response that a first pulse selects.
 -- Assumes nothing.
-use mathlib.Core.Bool.{Bool, true, false, cond, _&&_}
+use mathlib.Core.Bool.{Bool, true, false, cond, _&&_, true≢false}
 use mathlib.Core.Path.{_≡_, refl, ap, sym, subst, _∙_}
 use Prim.Native.Nat.{ℕ, _≤_, _<_}
 use native.Mathlib.Omega.{arith}
-use lib.Dec.{T, leb, ltb}
+use lib.Dec.{leb, ltb}
 use borrow.Author.Tests.{leb-true, ltb-true, lt-ltb, le-leb}
 use Rattle.bits.proofs.Below.{both-left, both-right, every-each}
 use Rattle.bits.specs.Byte.{bit}
@@ -128,7 +128,7 @@ selected-is s r e = by (ltb (answeringChip s) (s .count)) refl e
         → cond b (UnderWay (replyOf (answeringChip s) (chipAt s (answeringChip s)))) Idle ≡ UnderWay r
         → (answeringChip s < s .count) × (r ≡ replyOf (answeringChip s) (chipAt s (answeringChip s)))
     by true t e = (ltb-true _ _ t, ap (replyIn r) (sym e))
-    by false t e = absurd (subst T (ap isIdle e) tt)
+    by false t e = absurd (true≢false (ap isIdle e))
 
 pub selected-sound : (s : Chain) (r : Reply) → sound s ≡ true → selected s ≡ UnderWay r → (SoundReply (s .count) r) × (r .delivered ≡ 0)
 selected-sound s r e is =

@@ -1,12 +1,12 @@
--- Which codes are in no row of Figure 4, computed over all 256, and how wide the numbers of a row are.
+-- Which codes are in no row of Figure 4, computed over all 256, how wide the numbers of a row are, and that one code alone gives the reset's row.
 -- Assumes nothing.
-use mathlib.Core.Bool.{Bool, true, false, not, cond, _&&_, _||_}
-use mathlib.Core.Path.{_≡_, refl, ap, sym, subst, _∙_}
+use mathlib.Core.Bool.{Bool, true, false, not, cond, _&&_, _||_, false≢true}
+use mathlib.Core.Path.{_≡_, refl, ap, sym, _∙_}
 use Prim.Native.Nat.{ℕ, _/_, _%_, _<_}
 use native.Mathlib.Nat.{mod-lt, mod-eq-of-lt}
-use lib.Dec.{T, eqb, leb, ltb, lit<}
+use lib.Dec.{eqb, leb, ltb, lit<}
 use borrow.Author.Tests.{lt-ltb, ltb-true, not-true}
-use Rattle.bits.proofs.Below.{both-left, both-right, tested}
+use Rattle.bits.proofs.Below.{either, both-left, both-right, tested}
 use Rattle.bits.specs.Byte.{bit}
 use Rattle.chip.specs.Figure4.{isReset, loadRead, allOrOne, rowIn, figure4, undefined}
 use Rattle.chip.specs.declared.Command.{Command}
@@ -84,36 +84,35 @@ level-row code = simp (below (code / 8) 4 (lit< tt), one code)
 module _ (Q : Meaning → Bool) (none : Q Undefined ≡ true)
     (each-row : (row : Command) → rowFits row ≡ true → isResetRow row ≡ false → Q (Row row) ≡ true)
   where
-    either : (b : Bool) (x y : Meaning) → (b ≡ true → Q x ≡ true) → Q y ≡ true → Q (cond b x y) ≡ true
-    either true x y ex ey = ex refl
-    either false x y ex ey = ey
+    or-else : (b : Bool) (x y : Meaning) → (b ≡ true → Q x ≡ true) → Q y ≡ true → Q (cond b x y) ≡ true
+    or-else b x y ex ey = either (λ (m : Meaning). Q m ≡ true) b x y ex (λ _. ey)
 
     all-or-one : (code : ℕ) (all one : Command) → Q (Row all) ≡ true → Q (Row one) ≡ true → Q (allOrOne code all one) ≡ true
-    all-or-one code all one ea eo = either (bit code 3) (Row one) (Row all) (λ _. eo) ea
+    all-or-one code all one ea eo = or-else (bit code 3) (Row one) (Row all) (λ _. eo) ea
 
     load-read : (m low : ℕ) → ltb m 4 ≡ true → Q (loadRead m low) ≡ true
     load-read m low e =
-        either (eqb low 0b00) _ _ (λ _. each-row (LoadRead m) e refl)
-        (either (eqb low 0b01) _ _ (λ _. each-row (LoadReadAndArm m) e refl)
-        (either (eqb low 0b10) _ _ (λ _. each-row (LoadReadAndDisarm m) e refl)
+        or-else (eqb low 0b00) _ _ (λ _. each-row (LoadRead m) e refl)
+        (or-else (eqb low 0b01) _ _ (λ _. each-row (LoadReadAndArm m) e refl)
+        (or-else (eqb low 0b10) _ _ (λ _. each-row (LoadReadAndDisarm m) e refl)
         none))
 
     in-figure : (high code : ℕ) → (isReset code ≡ true → Q (Row Reset) ≡ true) → Q (rowIn high code) ≡ true
     in-figure high code reset =
         let single : ltb (code % 8) 8 ≡ true = one code in
-        either (eqb high 0x0) _ _ (λ _. either (isReset code) _ _ reset none)
-        (either (eqb high 0x1) _ _ (λ _. all-or-one code _ _ (each-row ClearIrrAndImr refl refl) (each-row (ClearIrrAndImrBit (code % 8)) single refl))
-        (either (eqb high 0x2) _ _ (λ _. all-or-one code _ _ (each-row ClearImr refl refl) (each-row (ClearImrBit (code % 8)) single refl))
-        (either (eqb high 0x3) _ _ (λ _. all-or-one code _ _ (each-row SetImr refl refl) (each-row (SetImrBit (code % 8)) single refl))
-        (either (eqb high 0x4) _ _ (λ _. all-or-one code _ _ (each-row ClearIrr refl refl) (each-row (ClearIrrBit (code % 8)) single refl))
-        (either (eqb high 0x5) _ _ (λ _. all-or-one code _ _ (each-row SetIrr refl refl) (each-row (SetIrrBit (code % 8)) single refl))
-        (either (eqb high 0x6) _ _ (λ _. each-row ClearHighestIsr refl refl)
-        (either (eqb high 0x7) _ _ (λ _. all-or-one code _ _ (each-row ClearIsr refl refl) (each-row (ClearIsrBit (code % 8)) single refl))
-        (either (eqb high 0x8 || eqb high 0x9) _ _ (λ _. each-row (LoadMode (code % 32)) (below code 32 (lit< tt)) refl)
-        (either (eqb high 0xA) _ _ (λ _. load-read (code / 4 % 4) (code % 4) (below (code / 4) 4 (lit< tt)))
-        (either (eqb high 0xB) _ _ (λ _. each-row PreselectImr refl refl)
-        (either (eqb high 0xC) _ _ (λ _. each-row PreselectAcr refl refl)
-        (either (eqb high 0xD) _ _ (λ _. none)
+        or-else (eqb high 0x0) _ _ (λ _. or-else (isReset code) _ _ reset none)
+        (or-else (eqb high 0x1) _ _ (λ _. all-or-one code _ _ (each-row ClearIrrAndImr refl refl) (each-row (ClearIrrAndImrBit (code % 8)) single refl))
+        (or-else (eqb high 0x2) _ _ (λ _. all-or-one code _ _ (each-row ClearImr refl refl) (each-row (ClearImrBit (code % 8)) single refl))
+        (or-else (eqb high 0x3) _ _ (λ _. all-or-one code _ _ (each-row SetImr refl refl) (each-row (SetImrBit (code % 8)) single refl))
+        (or-else (eqb high 0x4) _ _ (λ _. all-or-one code _ _ (each-row ClearIrr refl refl) (each-row (ClearIrrBit (code % 8)) single refl))
+        (or-else (eqb high 0x5) _ _ (λ _. all-or-one code _ _ (each-row SetIrr refl refl) (each-row (SetIrrBit (code % 8)) single refl))
+        (or-else (eqb high 0x6) _ _ (λ _. each-row ClearHighestIsr refl refl)
+        (or-else (eqb high 0x7) _ _ (λ _. all-or-one code _ _ (each-row ClearIsr refl refl) (each-row (ClearIsrBit (code % 8)) single refl))
+        (or-else (eqb high 0x8 || eqb high 0x9) _ _ (λ _. each-row (LoadMode (code % 32)) (below code 32 (lit< tt)) refl)
+        (or-else (eqb high 0xA) _ _ (λ _. load-read (code / 4 % 4) (code % 4) (below (code / 4) 4 (lit< tt)))
+        (or-else (eqb high 0xB) _ _ (λ _. each-row PreselectImr refl refl)
+        (or-else (eqb high 0xC) _ _ (λ _. each-row PreselectAcr refl refl)
+        (or-else (eqb high 0xD) _ _ (λ _. none)
         (each-row (PreselectLevel (code / 8 % 4) (code % 8)) (level-row code) refl)))))))))))))
 
 abbrev fits : Meaning → Bool
@@ -123,17 +122,6 @@ fits Undefined = true
 pub row-fits : (code : ℕ) (row : Command) → figure4 code ≡ Row row → rowFits row ≡ true
 unfolding figure4
 row-fits code row e = ap fits (sym e) ∙ in-figure fits refl (λ row fit other. fit) (code / 16) code (λ _. refl)
-
-abbrev isNoReset : Meaning → Bool
-isNoReset (Row row) = not (isResetRow row)
-isNoReset Undefined = true
-
--- no code but its own gives the reset's row
-pub no-reset : (code : ℕ) (row : Command) → figure4 code ≡ Row row → isReset code ≡ false → isResetRow row ≡ false
-unfolding figure4
-no-reset code row e other =
-    not-true (isResetRow row)
-    (ap isNoReset (sym e) ∙ in-figure isNoReset refl (λ row fit is. ap not is) (code / 16) code (λ is. absurd (subst T (sym (sym other ∙ is)) tt)))
 
 -- so a remainder by the width of a row's one number leaves it as it is
 pub row-narrow : (kind : ℕ → Command) (width : ℕ) → ((m : ℕ) → rowFits (kind m) ≡ ltb m width)
@@ -147,3 +135,14 @@ pub preselected : (code count level : ℕ) (row : Command) → figure4 code ≡ 
 preselected code count level row e is =
     let fit : ltb count 4 && ltb level 8 ≡ true = ap rowFits (sym is) ∙ row-fits code row e in
     (ltb-true count 4 (both-left _ (ltb level 8) fit), ltb-true level 8 (both-right (ltb count 4) _ fit))
+
+abbrev isNoReset : Meaning → Bool
+isNoReset (Row row) = not (isResetRow row)
+isNoReset Undefined = true
+
+-- no code but its own gives the reset's row
+pub no-reset : (code : ℕ) (row : Command) → figure4 code ≡ Row row → isReset code ≡ false → isResetRow row ≡ false
+unfolding figure4
+no-reset code row e other =
+    not-true (isResetRow row)
+    (ap isNoReset (sym e) ∙ in-figure isNoReset refl (λ row fit is. ap not is) (code / 16) code (λ is. absurd (false≢true (sym other ∙ is))))

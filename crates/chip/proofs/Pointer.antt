@@ -1,9 +1,8 @@
 -- The pointer is the channel answered last: only an answer and a reset move it.
 -- Assumes nothing.
-use mathlib.Core.Bool.{Bool, true, false, cond}
-use mathlib.Core.Path.{_≡_, refl, subst}
+use mathlib.Core.Bool.{Bool, true, false, cond, true≢false}
+use mathlib.Core.Path.{_≡_, refl}
 use Prim.Native.Nat.{ℕ}
-use lib.Dec.{T}
 use Rattle.bits.specs.Byte.{bit, withoutBit}
 use Rattle.chip.specs.Acknowledge.{answered, finished}
 use Rattle.chip.specs.Command.{obey, commanded}
@@ -29,7 +28,7 @@ answered-pointer channel c = refl
 -- a command other than reset leaves it
 row-pointer : (row : Command) (code : ℕ) (c : Chip) → isResetRow row ≡ false → commanded (Row row) code c .pointer ≡ c .pointer
 unfolding chipFields commanded obey
-row-pointer Reset code c e = absurd (subst T e tt)
+row-pointer Reset code c e = absurd (true≢false e)
 row-pointer ClearIrrAndImr code c e = refl
 row-pointer (ClearIrrAndImrBit k) code c e = refl
 row-pointer ClearImr code c e = refl

@@ -18,8 +18,8 @@ use Rattle.chain.specs.declared.Chain.{Chain}
 use Rattle.chain.specs.declared.Event.{Event}
 use Rattle.chain.specs.declared.Event.the-variants.{Fall}
 use Rattle.demands.specs.Along.{after, along}
-use Rattle.demands.specs.Demand3.{Waited, Demand3}
-use Rattle.demands.specs.Wait.{waits, resets, isWait, isFirstPulse, answersIt, answersAnother, others, reaches, isCounted, pulses}
+use Rattle.demands.specs.Demand3.{Demand3}
+use Rattle.demands.specs.Wait.{waits, resets, isWait, Waited, isFirstPulse, answersIt, answersAnother, others, reaches, isCounted, pulses}
 use Rattle.demands.proofs.Kept.{events-keep}
 use Rattle.demands.proofs.Wait.{pointerAt, first-pulse-parts, wait-step, counted-answered}
 use Rattle.demands.proofs.Worked.{worked, behind-others, refused-falls}

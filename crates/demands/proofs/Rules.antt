@@ -34,7 +34,7 @@ use Rattle.demands.specs.Rules.{StatusBits, ByTheRules}
 use Rattle.demands.proofs.Kept.{events-keep}
 
 -- the verdict of an accepted event
-pub verdict-accepted : (e : Event) (s : Chain) → accepts e s ≡ true → verdictOf e s ≡ Accepted
+verdict-accepted : (e : Event) (s : Chain) → accepts e s ≡ true → verdictOf e s ≡ Accepted
 verdict-accepted e s h = accepted-is (verdictOf e s) (sym (events-keep .zero-is-accepted e s) ∙ h)
 
 by-its-rule : (e : Event) (s : Chain) → accepts e s ≡ true → eventOf e s ≡ accepted (answerOf e s) (changed e s)

@@ -1,12 +1,13 @@
 -- Every call goes by the one table of numbers, proved: the tests of each call, taken in their order, are the entries of the table that can apply to it.
 -- Assumes nothing.
-use mathlib.Core.Bool.{Bool, true, false, not, cond}
+use mathlib.Core.Bool.{Bool, true, false, not}
 use mathlib.Core.List.{List, [], _∷_, _++_}
 use mathlib.Core.Path.{_≡_, refl, ap, sym, subst, _∙_}
-use Prim.Native.Nat.{ℕ, zero, suc, _+_, _<_, min}
+use Prim.Native.Nat.{ℕ, zero, suc, _+_, _*_, _≤_, _<_, min}
 use native.Mathlib.Omega.{arith}
-use lib.Dec.{eqb, ltb}
-use borrow.Author.Tests.{ne-eqb, lt-ltb, le-ltb}
+use lib.Dec.{eqb, leb, ltb}
+use lib.ListN.{getD}
+use borrow.Author.Tests.{le-leb, lt-leb, leb-true, leb-false, ne-eqb, lt-ltb, le-ltb}
 use Rattle.search.proofs.Order.{candidate-lt}
 use Rattle.search.specs.Candidate.{candidate, candidateNumber, channelOf, searchNumber}
 use Rattle.search.specs.declared.Candidate.{Candidate}
@@ -16,7 +17,7 @@ use Rattle.refusal.specs.Numbers.{refusalNumber, verdictNumber, isAccepted, fir
 use Rattle.refusal.specs.declared.Refusal.{Refusal}
 use Rattle.refusal.specs.declared.Verdict.{Verdict}
 use Rattle.refusal.specs.declared.Verdict.the-variants.{Accepted}
-use Rattle.chain.proofs.Kept.{either}
+use Rattle.bits.proofs.Below.{either}
 use Rattle.chain.specs.Answers.{verdictIn, handed, tabled, pictured}
 use Rattle.chain.specs.Events.{accepted, refused, judged, eventOf}
 use Rattle.chain.specs.Refusals.{notSound, noSuchChip, checks, verdictOf}
@@ -35,9 +36,7 @@ use Rattle.run.proofs.Before.{refused-before, none-before}
 use Rattle.run.proofs.Steps.{goes-on, stops}
 use Rattle.run.specs.List.{listed, listedAt}
 use Rattle.run.specs.Run.{Report, listLength, brokenEvent, shortResults, beforeAny, stepOf, noted, stopped, runFrom, runOf}
-use Rattle.run.specs.declared.Listed.{Listed}
-use Rattle.run.specs.declared.Listed.the-variants.{Known, Unknown}
-use Rattle.demands.specs.Table.{Entry, given, inNumbers, eventEntries, runEntries, listedEntries, lastEntries, ByTheTable}
+use Rattle.demands.specs.Table.{Entry, given, numbered, inNumbers, eventEntries, runEntries, listedEntries, lastEntries, ByTheTable}
 use Rattle.demands.proofs.Kept.{answers-zero}
 
 -- tests, each with its refusal, as entries of the table
@@ -100,22 +99,59 @@ left-over [] rest e = refl
 left-over ((true, why) ∷ l) rest e = not-both e
 left-over ((false, why) ∷ l) rest e = left-over l rest e
 
--- the entries of the event where a run ended, if that is before so many events
-abbrev endEntries : List ℕ → ℕ → Report → List Entry
-endEntries bytes most r = cond (ltb (r .ran .accepted) most) (listedEntries (listedAt bytes (r .ran .accepted)) (r .ran .chain)) []
-
 answer-number : (a : Answer) → verdictNumber (verdictIn a) ≡ handed a .number
 answer-number Done = refl
 answer-number (Byte b) = refl
 answer-number (Answer.Refused why) = refl
 
-listed-number : (l : Listed) (s : Chain) → verdictNumber (verdictIn (stepOf l s .answer)) ≡ given (listedEntries l s)
-listed-number (Known e) s = answer-number (eventOf e s .answer) ∙ event-number e s
-listed-number Unknown s = refl
+-- four bytes of a list: one of the eight events, whatever stands in the bytes that it does not use, or a kind outside 1 to 8
+abbrev Told : ℕ → ℕ → ℕ → ℕ → Chain → Type 0
+Told kind chip channel value s =
+    verdictNumber (verdictIn (stepOf (listed kind chip channel value) s .answer)) ≡ given (listedEntries (numbered kind chip channel value) s)
+
+known-number : (e : Event) (s : Chain) → verdictNumber (verdictIn (eventOf e s .answer)) ≡ given (eventEntries (inNumbers e) s)
+known-number e s = answer-number (eventOf e s .answer) ∙ event-number e s
+
+one-of-eight : (kind chip channel value : ℕ) (s : Chain) → kind ≤ 8 → Told kind chip channel value s
+one-of-eight zero chip channel value s h = refl
+one-of-eight (suc zero) chip channel value s h = known-number (Command chip value) s
+one-of-eight (suc (suc zero)) chip channel value s h = known-number (Data chip value) s
+one-of-eight (suc (suc (suc zero))) chip channel value s h = known-number (Status chip) s
+one-of-eight (suc (suc (suc (suc zero)))) chip channel value s h = known-number (Read chip) s
+one-of-eight (suc (suc (suc (suc (suc zero))))) chip channel value s h = known-number (Line chip channel value) s
+one-of-eight (suc (suc (suc (suc (suc (suc zero)))))) chip channel value s h = known-number (Enable value) s
+one-of-eight (suc (suc (suc (suc (suc (suc (suc zero))))))) chip channel value s h = known-number Fall s
+one-of-eight (suc (suc (suc (suc (suc (suc (suc (suc zero)))))))) chip channel value s h = known-number Rise s
+one-of-eight (suc (suc (suc (suc (suc (suc (suc (suc (suc kind))))))))) chip channel value s h = absurd (omega arith)
+
+apart : (kind k : ℕ) → 8 < kind → k ≤ 8 → eqb kind k ≡ false
+apart kind k h l = ne-eqb kind k (λ is. absurd (omega (arith, is)))
+
+outside : (kind chip channel value : ℕ) (s : Chain) → 8 < kind → Told kind chip channel value s
+outside kind chip channel value s h =
+    simp (
+      apart kind 1 h (omega arith),
+      apart kind 2 h (omega arith),
+      apart kind 3 h (omega arith),
+      apart kind 4 h (omega arith),
+      apart kind 5 h (omega arith),
+      apart kind 6 h (omega arith),
+      apart kind 7 h (omega arith),
+      apart kind 8 h (omega arith),
+      le-leb 1 kind (omega arith),
+      lt-leb kind 8 h,
+    )
+
+listed-number : (kind chip channel value : ℕ) (s : Chain) → Told kind chip channel value s
+listed-number kind chip channel value s = by (leb kind 8) refl
+  where
+    by : (within : Bool) → leb kind 8 ≡ within → Told kind chip channel value s
+    by true is = one-of-eight kind chip channel value s (leb-true kind 8 is)
+    by false is = outside kind chip channel value s (leb-false kind 8 is)
 
 from-number : (left : ℕ) (bytes : List ℕ) (n : ℕ) (s : Chain) (results : List ℕ)
-    → verdictNumber (runFrom left bytes n s results .ran .verdict) ≡ given (endEntries bytes (n + left) (runFrom left bytes n s results))
-unfolding runFrom
+    → verdictNumber (runFrom left bytes n s results .ran .verdict) ≡ given (lastEntries bytes (n + left) (runFrom left bytes n s results))
+unfolding runFrom listedAt
 from-number zero bytes n s results = rw (le-ltb n (n + 0) (omega arith)) refl
 from-number (suc left) bytes n s results = by (isAccepted (verdictIn (o .answer))) refl (from-number left bytes (n + 1) (o .chain) (noted n (handed (o .answer)) results))
   where
@@ -126,19 +162,19 @@ from-number (suc left) bytes n s results = by (isAccepted (verdictIn (o .answer)
     rest = runFrom left bytes (n + 1) (o .chain) (noted n (handed (o .answer)) results)
 
     Ends : Report → Type 0
-    Ends r = verdictNumber (r .ran .verdict) ≡ given (endEntries bytes (n + suc left) r)
+    Ends r = verdictNumber (r .ran .verdict) ≡ given (lastEntries bytes (n + suc left) r)
 
     by : (goes : Bool) → isAccepted (verdictIn (o .answer)) ≡ goes
-        → verdictNumber (rest .ran .verdict) ≡ given (endEntries bytes (n + 1 + left) rest)
+        → verdictNumber (rest .ran .verdict) ≡ given (lastEntries bytes (n + 1 + left) rest)
         → Ends (runFrom (suc left) bytes n s results)
     by true on later =
-        subst Ends (sym (goes-on (suc left) left bytes n s results o refl refl on)) (later ∙ ap (λ (most : ℕ). given (endEntries bytes most rest)) (omega arith))
+        subst Ends (sym (goes-on (suc left) left bytes n s results o refl refl on)) (later ∙ ap (λ (most : ℕ). given (lastEntries bytes most rest)) (omega arith))
     by false off later =
         subst Ends (sym (stops (suc left) left bytes n s results o refl refl off))
-        (rw (lt-ltb n (n + suc left) (omega arith)) (listed-number (listedAt bytes n) s))
+        (rw (lt-ltb n (n + suc left) (omega arith)) (listed-number (getD bytes (4 * n) 0) (getD bytes (4 * n + 1) 0) (getD bytes (4 * n + 2) 0) (getD bytes (4 * n + 3) 0) s))
 
 run-number : (s : Chain) (bytes : List ℕ) (limit : ℕ) (results : List ℕ)
-    → verdictNumber (runOf s bytes limit results .ran .verdict) ≡ given (runEntries s bytes results ++ lastEntries bytes limit (runOf s bytes limit results))
+    → verdictNumber (runOf s bytes limit results .ran .verdict) ≡ given (runEntries s bytes results ++ lastEntries bytes (min limit (listLength bytes)) (runOf s bytes limit results))
 unfolding beforeAny
 run-number s bytes limit results = by (isAccepted (beforeAny s bytes results)) refl
   where
@@ -152,17 +188,17 @@ run-number s bytes limit results = by (isAccepted (beforeAny s bytes results)) r
     none-more = omega arith
 
     Ends : Report → Type 0
-    Ends r = verdictNumber (r .ran .verdict) ≡ given (entries tests ++ lastEntries bytes limit r)
+    Ends r = verdictNumber (r .ran .verdict) ≡ given (entries tests ++ lastEntries bytes most r)
 
     by : (ok : Bool) → isAccepted (beforeAny s bytes results) ≡ ok → Ends (runOf s bytes limit results)
     by true h =
         subst Ends (sym (none-before s bytes limit results (beforeAny s bytes results) refl h))
         (from-number most bytes 0 s results
-        ∙ ap (λ (most : ℕ). given (endEntries bytes most (runFrom (min limit (listLength bytes)) bytes 0 s results))) none-more
-        ∙ sym (left-over tests (lastEntries bytes limit (runFrom most bytes 0 s results)) h))
+        ∙ ap (λ (most : ℕ). given (lastEntries bytes most (runFrom (min limit (listLength bytes)) bytes 0 s results))) none-more
+        ∙ sym (left-over tests (lastEntries bytes most (runFrom most bytes 0 s results)) h))
     by false h =
         subst Ends (sym (refused-before s bytes limit results (beforeAny s bytes results) refl h))
-        (sym (decided tests (lastEntries bytes limit (stopped (beforeAny s bytes results) 0 s results)) h))
+        (sym (decided tests (lastEntries bytes most (stopped (beforeAny s bytes results) 0 s results)) h))
 
 -- the C search
 not-254 : (c : Candidate) → channelOf c < 8 → eqb (candidateNumber c) 254 ≡ false
@@ -171,22 +207,10 @@ not-254 Nobody h = refl
 
 search-number : (irr imr isr mode pointer : ℕ) → eqb (searchNumber irr imr isr mode pointer) 254 ≡ ltb 7 pointer
 unfolding searchNumber
-search-number irr imr isr mode pointer = by (ltb 7 pointer) (not-254 (candidate irr imr isr mode pointer) (candidate-lt irr imr isr mode pointer))
-  where
-    by : (above : Bool) → eqb (candidateNumber (candidate irr imr isr mode pointer)) 254 ≡ false
-        → eqb (cond above 254 (candidateNumber (candidate irr imr isr mode pointer))) 254 ≡ above
-    by true other = refl
-    by false other = other
-
-four-bytes : (e : Event) → listed (inNumbers e .kind) (inNumbers e .chip) (inNumbers e .channel) (inNumbers e .value) ≡ Known e
-four-bytes (Command i code) = refl
-four-bytes (Data i byte) = refl
-four-bytes (Status i) = refl
-four-bytes (Read i) = refl
-four-bytes (Line i channel level) = refl
-four-bytes (Enable level) = refl
-four-bytes Fall = refl
-four-bytes Rise = refl
+search-number irr imr isr mode pointer =
+    either (λ (n : ℕ). eqb n 254 ≡ ltb 7 pointer) (ltb 7 pointer) _ _
+    (λ above. sym above)
+    (λ within. not-254 (candidate irr imr isr mode pointer) (candidate-lt irr imr isr mode pointer) ∙ sym within)
 
 pub by-the-table : ByTheTable
 unfolding registerView pinView
@@ -198,5 +222,4 @@ by-the-table =
       pin-view = λ chip s. picture-number (viewVerdict chip s) (pictureOf chip s) ∙ first-given (notSound s ∷ noSuchChip chip s ∷ []);
       run = run-number;
       search = search-number;
-      in-four-bytes = four-bytes;
     }

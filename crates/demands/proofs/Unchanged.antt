@@ -10,7 +10,7 @@ use lib.Seq.{getD-set-other}
 use Rattle.refusal.specs.Numbers.{isAccepted}
 use Rattle.refusal.specs.declared.Verdict.{Verdict}
 use Rattle.refusal.specs.declared.Verdict.the-variants.{Accepted, Refused}
-use Rattle.chain.proofs.Kept.{either}
+use Rattle.bits.proofs.Below.{either}
 use Rattle.chain.specs.Answers.{Handed, handed, tabled, pictured}
 use Rattle.chain.specs.Events.{accepted, refused, judged, eventOf}
 use Rattle.chain.specs.Fields.{zeroChain}

@@ -49,13 +49,13 @@ use Rattle.demands.specs.Wait.{waits, isFall, isFirstPulse, isFor, isFor
 use Rattle.demands.proofs.Kept.{events-keep}
 
 -- what a waiting request says of its chip
-pub record Waiting (c : Chip) (channel : ℕ) : Type 0 where
-  pub armed : isArmed c ≡ true
-  pub interrupt : isPolled c ≡ false
-  pub rotating : isRotating c ≡ true
-  pub request : isWaiting (c .irr) (c .imr) channel ≡ true
+record Waiting (c : Chip) (channel : ℕ) : Type 0 where
+  armed : isArmed c ≡ true
+  interrupt : isPolled c ≡ false
+  rotating : isRotating c ≡ true
+  request : isWaiting (c .irr) (c .imr) channel ≡ true
 
-pub waiting-parts : (c : Chip) (channel : ℕ) → waits c channel ≡ true → Waiting c channel
+waiting-parts : (c : Chip) (channel : ℕ) → waits c channel ≡ true → Waiting c channel
 waiting-parts c channel e =
     let first = both-left (isArmed c && not (isPolled c) && isRotating c) _ e in
     let second = both-left (isArmed c && not (isPolled c)) _ first in
@@ -75,7 +75,7 @@ same-pointer : (l : List Chip) (i : ℕ) (c : Chip) → c .pointer ≡ getD l i 
 same-pointer l i c is =
     ⊎-elim (λ new. ap (λ (c : Chip). c .pointer) new ∙ is) (λ old. ap (λ (c : Chip). c .pointer) old) (stored l i i c noChip)
 
--- the fall of a response under way, and a rise, leave every pointer
+-- a rise leaves the pointer of the chip that responds
 rise-pointer : (last : Bool) (r : Reply) (s : Chain) → pointerAt (risenAfter last r s) (r .chip) ≡ pointerAt s (r .chip)
 unfolding chainFields risenAfter
 rise-pointer true r s = same-pointer (s .chips) (r .chip) _ (finished-pointer (r .channel) (chipAt s (r .chip)))
@@ -138,7 +138,7 @@ quiet-step e s i none quiet = by (replaces e s i) refl
     by true here = judged-pointer (verdictOf e s) e s i refl none quiet here
     by false elsewhere = ap (λ (c : Chip). c .pointer) (events-keep .others-unchanged e s i elsewhere)
 
--- a first pulse makes the pointer of the chip that answers the channel
+-- after a first pulse the pointer of the chip that answers is the channel
 in-list : (l : List Chip) (i : ℕ) → isArmed (getD l i noChip) ≡ true → i < length l
 in-list [] i e = not-both e
 in-list (c ∷ l) zero e = zero-lt-suc _
@@ -218,7 +218,7 @@ first-pulse-parts e s h =
       idle = both-right (isFall e && isAccepted (verdictOf e s)) _ h;
     }
 
--- one event of a wait: what it answers for others, the request comes nearer
+-- one event of a wait: the request comes nearer by at least what the event answers for others
 abbrev Nearer : ℕ → ℕ → Event → Chain → Type 0
 Nearer i channel e s = digit (answersAnother i channel e s) + placeOf (pointerAt (eventOf e s .chain) i) channel ≤ placeOf (pointerAt s i) channel
 

@@ -16,7 +16,7 @@ use Rattle.chain.specs.declared.Registers.{Registers}
 abbrev pub gintReadsActive : ℕ → ℕ → Bool
 gintReadsActive mode pin = eqb pin (cond (bit mode 3) 1 0)
 
--- they agree when their event numbers are equal, S6 is the EI pin, and GINT is active exactly if S7 is set and S4 is clear
+-- a table and a picture agree: one event number in both, S6 shows the level of the EI pin, and GINT reads active just where S7 is set and S4 is not
 pub record Agree (table : Registers) (picture : Pins) : Type 0 where
   pub events : table .event ≡ picture .event
   pub s6-is-ei : digit (bit (table .status) 6) ≡ picture .ei

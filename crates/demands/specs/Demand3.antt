@@ -5,24 +5,16 @@
 use mathlib.Core.Bool.{true}
 use mathlib.Core.List.{List}
 use mathlib.Core.Path.{_≡_}
-use Prim.Native.Nat.{ℕ, _≤_, _<_}
+use Prim.Native.Nat.{ℕ, _≤_}
 use Rattle.chain.specs.Fields.{chipAt}
-use Rattle.chain.specs.Sound.{sound}
 use Rattle.chain.specs.declared.Chain.{Chain}
 use Rattle.chain.specs.declared.Event.{Event}
 use Rattle.demands.specs.Along.{after}
-use Rattle.demands.specs.Wait.{waits, isWait, answersIt, others, isCounted, pulses}
+use Rattle.demands.specs.Wait.{waits, Waited, answersIt, others, isCounted, pulses}
 use Rattle.demands.specs.Worked.{WorkedWait, BehindOthers, RefusedFalls}
 
--- a list of events through which a request waits
-pub record Waited (s : Chain) (i channel : ℕ) (es : List Event) : Type 0 where
-  pub sound-chain : sound s ≡ true
-  pub in-the-count : i < s .count
-  pub a-channel : channel < 8
-  pub waits-through : isWait i channel s es ≡ true
-
 pub record Demand3 : Type 0 where
-  -- while the request waits, the chip answers at most seven acknowledges for its other channels
+  -- in a wait, at most seven acknowledges are answered by the chip for other channels than the one that waits
   pub at-most-seven : (s : Chain) (i channel : ℕ) (es : List Event) → Waited s i channel es → others i channel s es ≤ 7
   -- at most seven first pulses that reach the chip with its in-service register empty leave the request waiting
   pub no-eighth : (s : Chain) (i channel : ℕ) (es : List Event) → Waited s i channel es → pulses i s es ≤ 7

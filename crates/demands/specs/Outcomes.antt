@@ -1,8 +1,9 @@
 -- Every call ends with a defined result on every input, and no two outcomes satisfy its promise.
 --
--- The promises here are the contracts of the public calls themselves, as the prover reads them for a caller: of a call, `Asked` is what it asks of its
--- arguments, and `Post` what it ensures of its arguments, its result and its arguments at the return. (A value is then as it was passed; a lent buffer
--- may hold something else.) That a proved call ends is part of being proved.
+-- The promises here are the contracts of the public calls themselves, as the prover reads them: of a call, `Asked` is what a caller has to show of its
+-- arguments, and `Post` what the call has to show of its arguments, its result and its arguments at the return. (A value is then as it was passed; a
+-- lent buffer may hold something else.) Both take the lifetimes of lent buffers first, `tt` where there are none, and the arguments as a list that
+-- ends in `tt`. That a call ends is part of being proved.
 use mathlib.Core.List.{List}
 use mathlib.Core.Path.{_≡_}
 use Prim.Native.Nat.{ℕ}

@@ -1,11 +1,11 @@
 -- Document 01, "Numbers handed back", as one table for all calls: each number with the case in which it is given, in the table's order.
 -- `chain/specs/Refusals` tells it event by event; that each call goes by this one table is the statement here.
-use mathlib.Core.Bool.{Bool, true, not, cond, _&&_, _||_}
+use mathlib.Core.Bool.{Bool, not, cond, _&&_, _||_}
 use mathlib.Core.List.{List, [], _∷_, _++_}
 use mathlib.Core.Path.{_≡_}
-use Prim.Native.Nat.{ℕ, _*_, _/_, _%_, min}
+use Prim.Native.Nat.{ℕ, _+_, _*_, _/_, _%_, min}
 use lib.Dec.{eqb, leb, ltb}
-use lib.ListN.{length}
+use lib.ListN.{getD, length}
 use Rattle.refusal.specs.Numbers.{verdictNumber}
 use Rattle.search.specs.Candidate.{searchNumber}
 use Rattle.chip.specs.Data.{hasNoDestination, isPastItsCount}
@@ -19,10 +19,7 @@ use Rattle.chain.specs.Views.{registerView, pinView}
 use Rattle.chain.specs.declared.Chain.{Chain}
 use Rattle.chain.specs.declared.Event.{Event}
 use Rattle.chain.specs.declared.Event.the-variants.{Command, Data, Status, Read, Line, Enable, Fall, Rise}
-use Rattle.run.specs.List.{listed, listedAt}
 use Rattle.run.specs.Run.{Report, runOf}
-use Rattle.run.specs.declared.Listed.{Listed}
-use Rattle.run.specs.declared.Listed.the-variants.{Known, Unknown}
 
 -- an entry of the table: a number, and whether its case applies
 abbrev pub Entry : Type 0
@@ -33,7 +30,7 @@ abbrev pub given : List Entry → ℕ
 given [] = 0
 given (entry ∷ entries) = cond (entry .1) (entry .0) (given entries)
 
--- an event by its kind, 1 to 8, and the numbers it carries; 0 where it carries none
+-- an event by its kind, 1 to 8, and three numbers; those that its kind does not use do not matter
 pub record Numbered : Type 0 where
   pub kind : ℕ
   pub chip : ℕ
@@ -93,15 +90,17 @@ runEntries s bytes results =
     ∷ (11, ltb (length results) (2 * (length bytes / 4)))
     ∷ []
 
--- what it takes at an event of its list: 12, kind outside 1 to 8, or that event's own
-abbrev pub listedEntries : Listed → Chain → List Entry
-listedEntries (Known e) s = eventEntries (inNumbers e) s
-listedEntries Unknown s = (12, true) ∷ []
+-- what it takes at an event of its list: 12, kind outside 1 to 8, before that event's own
+abbrev pub listedEntries : Numbered → Chain → List Entry
+listedEntries e s = (12, not (leb 1 (e .kind) && leb (e .kind) 8)) ∷ eventEntries e s
 
--- the event at which a run ended before its limit and the end of its list; none, if it got that far
+-- the n-th event of a list, from its four bytes
+abbrev pub fourBytes : List ℕ → ℕ → Numbered
+fourBytes bytes n = numbered (getD bytes (4 * n) 0) (getD bytes (4 * n + 1) 0) (getD bytes (4 * n + 2) 0) (getD bytes (4 * n + 3) 0)
+
+-- the entries of the event at which a run ended, if that is before so many events; else none
 abbrev pub lastEntries : List ℕ → ℕ → Report → List Entry
-lastEntries bytes limit r =
-    cond (ltb (r .ran .accepted) (min limit (length bytes / 4))) (listedEntries (listedAt bytes (r .ran .accepted)) (r .ran .chain)) []
+lastEntries bytes most r = cond (ltb (r .ran .accepted) most) (listedEntries (fourBytes bytes (r .ran .accepted)) (r .ran .chain)) []
 
 pub record ByTheTable : Type 0 where
   -- start count outside 1 to 8
@@ -109,11 +108,9 @@ pub record ByTheTable : Type 0 where
   pub event : (e : Event) (s : Chain) → handed (eventOf e s .answer) .number ≡ given (eventEntries (inNumbers e) s)
   pub register-view : (chip : ℕ) (s : Chain) → tabled (registerView chip s) .number ≡ given (chainNotSound s ∷ chipNotBelow chip s ∷ [])
   pub pin-view : (chip : ℕ) (s : Chain) → pictured (pinView chip s) .number ≡ given (chainNotSound s ∷ chipNotBelow chip s ∷ [])
-  -- a run: before any event, else at the event where it ended
+  -- a run: before any event, else at the event where it ended before its limit and the end of its list
   pub run : (s : Chain) (bytes : List ℕ) (limit : ℕ) (results : List ℕ)
       → verdictNumber (runOf s bytes limit results .ran .verdict)
-      ≡ given (runEntries s bytes results ++ lastEntries bytes limit (runOf s bytes limit results))
+      ≡ given (runEntries s bytes results ++ lastEntries bytes (min limit (length bytes / 4)) (runOf s bytes limit results))
   -- the C search gives 254, which stands for refusal 1, exactly if the pointer is above 7
   pub search : (irr imr isr mode pointer : ℕ) → eqb (searchNumber irr imr isr mode pointer) 254 ≡ ltb 7 pointer
-  -- four bytes of a list are the event of that kind with these numbers
-  pub in-four-bytes : (e : Event) → listed (inNumbers e .kind) (inNumbers e .chip) (inNumbers e .channel) (inNumbers e .value) ≡ Known e

@@ -1,7 +1,8 @@
 -- What the third demand speaks of: a wait, a first pulse that reaches a chip, and the two counts. Over any chain and any list of events.
 use mathlib.Core.Bool.{Bool, true, false, not, _&&_}
 use mathlib.Core.List.{List, [], _∷_}
-use Prim.Native.Nat.{ℕ}
+use mathlib.Core.Path.{_≡_}
+use Prim.Native.Nat.{ℕ, _<_}
 use lib.Dec.{eqb}
 use Rattle.bits.specs.Below.{every}
 use Rattle.bits.specs.Byte.{isWaiting}
@@ -14,6 +15,7 @@ use Rattle.chain.specs.Refusals.{verdictOf}
 use Rattle.chain.specs.Fields.{chipAt}
 use Rattle.chain.specs.Pins.{isIdle}
 use Rattle.chain.specs.Pulse.{selected}
+use Rattle.chain.specs.Sound.{sound}
 use Rattle.chain.specs.declared.Chain.{Chain}
 use Rattle.chain.specs.declared.Event.{Event}
 use Rattle.chain.specs.declared.Event.the-variants.{Command, Data, Status, Read, Line, Enable, Fall, Rise}
@@ -75,6 +77,13 @@ unfoldable pub isWait : ℕ → ℕ → Chain → List Event → Bool
 isWait i channel s [] = true
 isWait i channel s (e ∷ es) =
     waits (chipAt s i) channel && not (resets i e s) && not (answersIt i channel e s) && isWait i channel (eventOf e s .chain) es
+
+-- a request on a chip in the count of a sound chain, and a list of events through which it waits
+pub record Waited (s : Chain) (i channel : ℕ) (es : List Event) : Type 0 where
+  pub sound-chain : sound s ≡ true
+  pub in-the-count : i < s .count
+  pub a-channel : channel < 8
+  pub waits-through : isWait i channel s es ≡ true
 
 -- a first pulse that falls now reaches chip i: no response is under way, the chain's Enable In is high, every earlier chip is armed, and no
 -- earlier chip in interrupt mode has a request that it would answer: a candidate with M2 clear, which is what makes GINT active

@@ -10,7 +10,7 @@ use Rattle.chain.specs.declared.Chain.{Chain}
 use Rattle.chain.specs.declared.Event.{Event}
 use Rattle.chain.specs.declared.Event.the-variants.{Command, Data, Enable, Fall, Rise}
 use Rattle.demands.specs.Along.{after, acceptedIn}
-use Rattle.demands.specs.Wait.{answersIt, isWait, reaches, isCounted, others, pulses}
+use Rattle.demands.specs.Wait.{waits, answersIt, Waited, reaches, isCounted, others, pulses}
 
 -- chip i rotating, armed, all unmasked and auto clear, all eight channels pending; its pointer is 7 from the start
 abbrev pub ready : ℕ → List Event
@@ -27,9 +27,10 @@ sevenPulses = pulse ++ pulse ++ pulse ++ pulse ++ pulse ++ pulse ++ pulse
 
 -- channel 7 waits through seven pulses, which answer 0 to 6 and all count; the eighth counts too, and answers it
 pub record WorkedWait : Type 0 where
-  pub waits-through : isWait 0 7 allPending sevenPulses ≡ true
+  pub waits-through : Waited allPending 0 7 sevenPulses
   pub seven-others : others 0 7 allPending sevenPulses ≡ 7
   pub seven-counted : pulses 0 allPending sevenPulses ≡ 7
+  pub still-waits : waits (chipAt (after allPending sevenPulses) 0) 7 ≡ true
   pub eighth-counted : isCounted 0 Fall (after allPending sevenPulses) ≡ true
   pub eighth-answers : answersIt 0 7 Fall (after allPending sevenPulses) ≡ true
 
@@ -44,9 +45,10 @@ thirdOfThree =
 -- the first pulse does not reach the third chip; then it goes as with one chip alone
 pub record BehindOthers : Type 0 where
   pub not-reached : reaches 2 thirdOfThree ≡ false
-  pub waits-through : isWait 2 7 thirdOfThree (pulse ++ sevenPulses) ≡ true
+  pub waits-through : Waited thirdOfThree 2 7 (pulse ++ sevenPulses)
   pub seven-others : others 2 7 thirdOfThree (pulse ++ sevenPulses) ≡ 7
   pub seven-counted : pulses 2 thirdOfThree (pulse ++ sevenPulses) ≡ 7
+  pub still-waits : waits (chipAt (after thirdOfThree (pulse ++ sevenPulses)) 2) 7 ≡ true
   pub eighth-counted : isCounted 2 Fall (after thirdOfThree (pulse ++ sevenPulses)) ≡ true
   pub eighth-answers : answersIt 2 7 Fall (after thirdOfThree (pulse ++ sevenPulses)) ≡ true
 
@@ -59,7 +61,7 @@ eightFalls = Fall ∷ Fall ∷ Fall ∷ Fall ∷ Fall ∷ Fall ∷ Fall ∷ Fall
 
 -- channel 7 waits through eight falls, each refused: a pulse that fell would reach the chip with its in-service register empty, but none does
 pub record RefusedFalls : Type 0 where
-  pub waits-through : isWait 0 7 stalled eightFalls ≡ true
+  pub waits-through : Waited stalled 0 7 eightFalls
   pub would-reach : reaches 0 stalled ≡ true
   pub in-service-empty : chipAt stalled 0 .isr ≡ 0
   pub none-accepted : acceptedIn stalled eightFalls ≡ 0

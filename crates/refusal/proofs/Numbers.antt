@@ -1,10 +1,9 @@
 -- Laws of the table of numbers, and of a list of tests.
 -- Assumes nothing.
-use mathlib.Core.Bool.{Bool, true, false}
+use mathlib.Core.Bool.{Bool, true, false, false≢true}
 use mathlib.Core.List.{List, [], _∷_, _++_}
-use mathlib.Core.Path.{_≡_, refl, ap, sym, subst}
+use mathlib.Core.Path.{_≡_, refl, ap, sym}
 use native.Mathlib.Omega.{arith}
-use lib.Dec.{T}
 use Rattle.refusal.specs.Numbers.{refusalNumber, isAccepted, firstOf}
 use Rattle.refusal.specs.declared.Refusal.{Refusal}
 use Rattle.refusal.specs.declared.Refusal.the-variants.{NotSound, NoSuchChip, NoSuchChannel, NoSuchLevel, PulseUnderWay, IackThereAlready, UndefinedCommand, NoDestination, PastItsCount, BrokenEvent, ShortResults, UnknownKind}
@@ -28,7 +27,7 @@ not-zero UnknownKind e = omega arith
 
 -- no test both holds and fails
 pub not-both : {A : Type 0} → false ≡ true → A
-not-both e = absurd (subst T (sym e) tt)
+not-both e = absurd (false≢true e)
 
 -- tests that accept have each been passed
 pub passed-first : (b : Bool) (why : Refusal) (l : List (Bool × Refusal)) → firstOf ((b, why) ∷ l) ≡ Accepted → b ≡ false

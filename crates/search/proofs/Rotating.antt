@@ -1,17 +1,17 @@
 -- A channel that waits in an order: where the candidate stands to it, and how an answer to another channel brings it nearer in rotating order.
 -- Assumes nothing.
-use mathlib.Core.Path.{_≡_, refl, ap, sym, subst, _∙_}
-use mathlib.Core.Bool.{Bool, true, false, cond}
+use mathlib.Core.Path.{_≡_, refl, ap, _∙_}
+use mathlib.Core.Bool.{true, false, false≢true}
 use Prim.Native.Nat.{ℕ, _+_, _-_, _%_, _≤_, _<_}
 use native.Mathlib.Nat.{mod-lt}
 use native.Mathlib.Omega.{arith}
-use lib.Dec.{T, ltb, lit<}
+use lib.Dec.{ltb, lit<}
 use borrow.Author.Tests.{lt-ltb}
 use Rattle.bits.specs.Byte.{bit, isWaiting}
-use Rattle.bits.proofs.Below.{tested, first-none, first-before}
+use Rattle.bits.proofs.Below.{either, tested, first-none, first-before}
 use Rattle.search.specs.Candidate.{candidate, candidateIn, exists, channelOf}
 use Rattle.search.specs.Order.{lastOf, channelAt, firstIn, firstWaiting, fence}
-use Rattle.search.specs.declared.Candidate.the-variants.{Channel, Nobody}
+use Rattle.search.specs.declared.Candidate.{Candidate}
 use Rattle.search.proofs.Order.{channel-lt}
 
 -- where an armed chip has a candidate, it is the first waiting channel of the order in force
@@ -19,13 +19,11 @@ pub candidate-at : (irr imr isr mode pointer : ℕ) → bit mode 7 ≡ true → 
     → channelOf (candidate irr imr isr mode pointer) ≡ channelAt (lastOf mode pointer) (firstWaiting (lastOf mode pointer) irr imr)
 unfolding candidate candidateIn
 candidate-at irr imr isr mode pointer armed =
-    rw armed (by (ltb (firstWaiting (lastOf mode pointer) irr imr) (fence (lastOf mode pointer) isr)))
-  where
-    by : (ahead : Bool) → exists (cond ahead (Channel (channelAt (lastOf mode pointer) (firstWaiting (lastOf mode pointer) irr imr))) Nobody) ≡ true
-        → channelOf (cond ahead (Channel (channelAt (lastOf mode pointer) (firstWaiting (lastOf mode pointer) irr imr))) Nobody)
-        ≡ channelAt (lastOf mode pointer) (firstWaiting (lastOf mode pointer) irr imr)
-    by true e = refl
-    by false e = absurd (subst T (sym e) tt)
+    rw armed
+    (either (λ (c : Candidate). exists c ≡ true → channelOf c ≡ channelAt (lastOf mode pointer) (firstWaiting (lastOf mode pointer) irr imr))
+    (ltb (firstWaiting (lastOf mode pointer) irr imr) (fence (lastOf mode pointer) isr)) _ _
+    (λ ahead found. refl)
+    (λ fenced found. absurd (false≢true found)))
 
 -- an armed chip with a waiting channel and an empty ISR has a candidate
 no-fence : (last : ℕ) → fence last 0 ≡ 8
