@@ -1,4 +1,4 @@
--- The first demand: every call ends with a defined result on every input; what is wrong is refused by its number; a refusal changes nothing.
+-- The first demand: no input of a call is without its defined result, what is wrong gets its number, and a refusal changes nothing.
 use Rattle.demands.specs.Outcomes.{OneOutcome}
 use Rattle.demands.specs.Table.{ByTheTable}
 use Rattle.demands.specs.Unchanged.{Unchanged}
@@ -8,5 +8,5 @@ pub record Demand1 : Type 0 where
   pub one-outcome : OneOutcome
   -- its refusal is the first of the table that applies
   pub by-the-table : ByTheTable
-  -- a refused event hands back the same chain and writes into no lent buffer; a refused run changes nothing beyond its accepted events
+  -- a refusal leaves the chain and every lent byte as they were; of a run that is refused at an event, what it accepted before stays
   pub unchanged : Unchanged

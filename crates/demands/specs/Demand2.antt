@@ -1,4 +1,4 @@
--- The second demand: the model is the Am9519A by the rules, after every accepted event, for one to eight chips; and picture and table of one state agree.
+-- The second demand: one to eight chips behave by the rules, event by event, and what the two views show of a state cannot differ.
 use Rattle.demands.specs.Agree.{Agreement}
 use Rattle.demands.specs.Cases.{cases, Hold}
 use Rattle.demands.specs.Corners.{corners}
@@ -18,5 +18,5 @@ pub record Demand2 : Type 0 where
   pub kept : Kept
   -- a run accepts the events before its limit, its end or its first refusal, and reports how many
   pub runs : Runs
-  -- picture and table of one state always agree
+  -- the picture and the table of a state agree, whatever the state
   pub agreement : Agreement

@@ -1,4 +1,4 @@
--- Every call ends with a defined result on every input, and no two outcomes satisfy its promise.
+-- What every public call promises: an outcome for all that it can be given, and never two to choose from.
 --
 -- The promises here are the contracts of the public calls themselves, as the prover reads them: of a call, `Asked` is what a caller has to show of its
 -- arguments, and `Post` what the call has to show of its arguments, its result and its arguments at the return. (A value is then as it was passed; a
