@@ -21,7 +21,7 @@ use Rattle.demands.specs.Along.{after, along}
 use Rattle.demands.specs.Demand3.{Demand3}
 use Rattle.demands.specs.Wait.{waits, resets, isWait, Waited, isFirstPulse, answersIt, answersAnother, others, reaches, isCounted, pulses}
 use Rattle.demands.proofs.Kept.{events-keep}
-use Rattle.demands.proofs.Wait.{pointerAt, first-pulse-parts, wait-step, counted-answered}
+use Rattle.demands.proofs.Wait.{pointerAt, first-pulse-parts, Nearer, wait-step, counted-answered}
 use Rattle.demands.proofs.Worked.{worked, behind-others, refused-falls}
 
 -- the first event of a wait, and the wait after it
@@ -63,7 +63,7 @@ come s i channel [] w = record { pulses-le = omega arith; others-le = omega arit
 come s i channel (e ∷ es) w =
     let b : Begins s i channel e es = begins s i channel e es w in
     let rest : Come (eventOf e s .chain) i channel es = come (eventOf e s .chain) i channel es (b .then) in
-    let near : digit (answersAnother i channel e s) + placeOf (pointerAt (eventOf e s .chain) i) channel ≤ placeOf (pointerAt s i) channel =
+    let near : Nearer i channel e s =
     wait-step e s i channel (w .sound-chain) (w .in-the-count) (w .a-channel) (b .waiting) (b .no-reset) (b .no-answer) in
     let one : digit (isCounted i e s) ≤ digit (answersAnother i channel e s) =
     digit-le (isCounted i e s) (answersAnother i channel e s)
@@ -102,7 +102,7 @@ eighth s i channel es w seventh e still counts = by (answersIt i channel e (afte
         let fp : isFirstPulse e t ≡ true = both-left (isFirstPulse e t) _ (both-left (isFirstPulse e t && reaches i t) _ counts) in
         let another : answersAnother i channel e t ≡ true =
         counted-answered e t i channel (at .sound-chain) (at .in-the-count) (at .a-channel) still counts is in
-        let near : digit (answersAnother i channel e t) + placeOf (pointerAt (eventOf e t .chain) i) channel ≤ placeOf (pointerAt t i) channel =
+        let near : Nearer i channel e t =
         wait-step e t i channel (at .sound-chain) (at .in-the-count) (at .a-channel) still (resets-none e t i (first-pulse-parts e t fp .fall)) is in
         let one : digit (answersAnother i channel e t) ≡ 1 = ap digit another in
         let few = come s i channel es w .pulses-le in

@@ -7,6 +7,7 @@ pub mod Demand3
 pub mod Kept
 pub mod Misread
 pub mod Outcomes
+pub mod Performed
 pub mod Rules
 pub mod Runs
 pub mod Table

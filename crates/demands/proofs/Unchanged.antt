@@ -5,8 +5,7 @@ use mathlib.Core.List.{List}
 use mathlib.Core.Path.{_≡_, refl, ap, sym, _∙_}
 use Prim.Native.Nat.{ℕ, _+_, _*_, _≤_, min}
 use native.Mathlib.Omega.{arith}
-use lib.ListN.{getD, set, length}
-use lib.Seq.{getD-set-other}
+use lib.ListN.{getD, length}
 use Rattle.refusal.specs.Numbers.{isAccepted}
 use Rattle.refusal.specs.declared.Verdict.{Verdict}
 use Rattle.refusal.specs.declared.Verdict.the-variants.{Accepted, Refused}
@@ -27,9 +26,10 @@ use Rattle.run.proofs.Before as before-any
 use Rattle.run.proofs.Count.{no-more}
 use Rattle.run.proofs.Steps.{goes-on, noted-length, run-through}
 use Rattle.run.specs.List.{listedAt}
-use Rattle.run.specs.Run.{Report, listLength, beforeAny, stepOf, noted, stopped, runFrom, acceptedFrom, runOf}
+use Rattle.run.specs.Run.{Report, listLength, beforeAny, stepOf, noted, runFrom, acceptedFrom, runOf}
 use Rattle.demands.specs.Unchanged.{unrefused, Unchanged}
 use Rattle.demands.proofs.Kept.{answers-zero}
+use Rattle.demands.proofs.Performed.{noted-other, none-left}
 use Rattle.demands.proofs.Runs.{whole, counted}
 
 -- an event
@@ -74,9 +74,7 @@ from-length bytes =
 
 -- the n-th event's bytes stand below those of the events after it
 noted-past : (n : ℕ) (h : Handed) (results : List ℕ) (k : ℕ) → 2 * (n + 1) ≤ k → getD (noted n h results) k 0 ≡ getD results k 0
-noted-past n h results k l =
-    getD-set-other (set results (2 * n) (h .drove)) (2 * n + 1) k (h .byte) 0 (λ is. absurd (omega (arith, is)))
-    ∙ getD-set-other results (2 * n) k (h .drove) 0 (λ is. absurd (omega (arith, is)))
+noted-past n h results k l = noted-other n h results k (λ is. absurd (omega (arith, is))) (λ is. absurd (omega (arith, is)))
 
 from-untouched : (bytes : List ℕ) (left n : ℕ) (s : Chain) (results : List ℕ) (i : ℕ) → 2 * (n + acceptedFrom left bytes n s) ≤ i
     → getD (runFrom left bytes n s results .results) i 0 ≡ getD results i 0
@@ -84,10 +82,6 @@ from-untouched bytes =
     run-through bytes (λ n s results r k. (i : ℕ) → 2 * (n + k) ≤ i → getD (r .results) i 0 ≡ getD results i 0)
     (λ n s results v i past. refl)
     (λ n s results r k on rest i past. rest i (omega arith) ∙ noted-past n (handed (stepOf (listedAt bytes n) s .answer)) results i (omega arith))
-
-none-left : (bytes : List ℕ) (n : ℕ) (s : Chain) (results : List ℕ) → runFrom 0 bytes n s results ≡ stopped Accepted n s results
-unfolding runFrom
-none-left bytes n s results = refl
 
 from-kept : (bytes : List ℕ) (left n : ℕ) (s : Chain) (results : List ℕ)
     → runFrom (acceptedFrom left bytes n s) bytes n s results ≡ unrefused (runFrom left bytes n s results)

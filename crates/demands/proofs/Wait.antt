@@ -219,7 +219,7 @@ first-pulse-parts e s h =
     }
 
 -- one event of a wait: the request comes nearer by at least what the event answers for others
-abbrev Nearer : ℕ → ℕ → Event → Chain → Type 0
+abbrev pub Nearer : ℕ → ℕ → Event → Chain → Type 0
 Nearer i channel e s = digit (answersAnother i channel e s) + placeOf (pointerAt (eventOf e s .chain) i) channel ≤ placeOf (pointerAt s i) channel
 
 answered-step : (found : Response) (s : Chain) (i channel : ℕ) → selected s ≡ found → isResponding found i ≡ true → sound s ≡ true → i < s .count → channel < 8
@@ -288,11 +288,11 @@ counted-answered e s i channel here h hc w counts other =
     (simp (p .interrupt, found))
     (λ j l. not-true (gintActive (chipAt s j)) (every-each i (λ j. not (gintActive (chipAt s j))) none j l)) in
     subst (λ found. isFirstPulse e s && isFor i channel found ≡ false → isFirstPulse e s && isForAnother i channel found ≡ true) (sym is)
-    (either (isFirstPulse e s) (eqb i i) _ fp (eq-eqb i i refl))
+    (one-or-other (isFirstPulse e s) (eqb i i) _ fp (eq-eqb i i refl))
     other
   where
-    either : (fp same it : Bool) → fp ≡ true → same ≡ true → fp && (same && it) ≡ false → fp && (same && not it) ≡ true
-    either true true true ef es e = not-both (sym e)
-    either true true false ef es e = refl
-    either true false it ef es e = not-both es
-    either false same it ef es e = not-both ef
+    one-or-other : (fp same it : Bool) → fp ≡ true → same ≡ true → fp && (same && it) ≡ false → fp && (same && not it) ≡ true
+    one-or-other true true true ef es e = not-both (sym e)
+    one-or-other true true false ef es e = refl
+    one-or-other true false it ef es e = not-both es
+    one-or-other false same it ef es e = not-both ef

@@ -16,7 +16,7 @@ pub record Demand2 : Type 0 where
   pub by-the-rules : ByTheRules
   -- a sound chain stays sound, all chips but at most one are unchanged, records past the count never change, the event number counts accepted events
   pub kept : Kept
-  -- a run accepts the events before its limit, its end or its first refusal, and reports how many
+  -- a run accepts the events before its limit, its end or its first refusal, performs each on the chain that those before it leave, and reports how many
   pub runs : Runs
   -- the picture and the table of a state agree, whatever the state
   pub agreement : Agreement

@@ -1,20 +1,31 @@
--- What a run counts (document 01, "Views and runs"). What a refused one leaves as it was: Unchanged.
+-- What a run does and counts (document 01, "Views and runs"). What a refused one leaves as it was: Unchanged.
 use mathlib.Core.Bool.{true}
 use mathlib.Core.List.{List}
 use mathlib.Core.Path.{_≡_}
-use Prim.Native.Nat.{ℕ, _+_, _%_, _<_, min}
+use Prim.Native.Nat.{ℕ, _+_, _*_, _%_, _<_, min}
 use lib.Dec.{eqb}
+use lib.ListN.{getD}
 use Rattle.refusal.specs.Numbers.{isAccepted}
 use Rattle.chain.specs.Answers.{verdictIn, handed}
 use Rattle.chain.specs.Sound.{sound}
 use Rattle.chain.specs.declared.Answer.{Answer}
 use Rattle.chain.specs.declared.Chain.{Chain}
-use Rattle.run.specs.Run.{listLength, beforeAny, acceptedFrom, runOf}
+use Rattle.run.specs.List.{listedAt}
+use Rattle.run.specs.Run.{listLength, beforeAny, stepOf, acceptedFrom, runOf}
+
+-- the n-th event of a list, performed on one chain and leaving another, and its two bytes in the results: 1 and the byte driven or read, or 0 and 0
+pub record Performed (bytes : List ℕ) (n : ℕ) (before next : Chain) (results : List ℕ) : Type 0 where
+  pub chain : next ≡ stepOf (listedAt bytes n) before .chain
+  pub drove : getD results (2 * n) 0 ≡ handed (stepOf (listedAt bytes n) before .answer) .drove
+  pub byte : getD results (2 * n + 1) 0 ≡ handed (stepOf (listedAt bytes n) before .answer) .byte
 
 pub record Runs : Type 0 where
   -- a run that is not refused before any event accepts the events before the limit, the end or the first refusal
   pub accepted-count : (s : Chain) (bytes : List ℕ) (limit : ℕ) (results : List ℕ) → isAccepted (beforeAny s bytes results) ≡ true
       → runOf s bytes limit results .ran .accepted ≡ acceptedFrom (min limit (listLength bytes)) bytes 0 s
+  -- each of them is performed on the chain that those before it leave: the chain of the run that is limited to them
+  pub each-performed : (s : Chain) (bytes : List ℕ) (limit : ℕ) (results : List ℕ) (n : ℕ) → n < runOf s bytes limit results .ran .accepted
+      → Performed bytes n (runOf s bytes n results .ran .chain) (runOf s bytes (n + 1) results .ran .chain) (runOf s bytes limit results .results)
   -- the event number is the number before plus the accepted events, modulo 65,536
   pub number-counts : (s : Chain) (bytes : List ℕ) (limit : ℕ) (results : List ℕ) → s .event < 65536
       → runOf s bytes limit results .ran .chain .event ≡ (s .event + runOf s bytes limit results .ran .accepted) % 65536
