@@ -12,6 +12,7 @@
 #ifndef AM9519A_H
 #define AM9519A_H
 
+#include <stddef.h>
 #include <stdint.h>
 
 #ifdef __cplusplus
@@ -47,6 +48,161 @@ extern "C" {
  *     am9519a_candidate(0x25, 0x01, 0x20, 0x80, 8)    is 254
  */
 uint8_t am9519a_candidate(uint8_t irr, uint8_t imr, uint8_t isr, uint8_t mode, uint8_t pointer);
+
+/*
+ * A chain of 1 to 8 chips.
+ *
+ * The chain lives in an image of 528 bytes, which you own and lend to each call. am9519a_start fills one, am9519a_run applies events to
+ * it, am9519a_registers and am9519a_pins show it. You may copy it, keep it, compare it byte by byte, or write one of your own: a call that
+ * reads it looks it through first and refuses by AM9519A_REFUSED_CHAIN
+ *   - an image of another length than 528,
+ *   - one that is not of the form below, in any of its eight records,
+ *   - one whose chain is not sound: a count outside 1 to 8; in a chip below the count a code above 3, a pointer or chosen level above 7
+ *     or a place above 4; a response of a chip not below the count, with a channel or level above 7, a length outside 1 to 4, or fewer
+ *     than 1 byte delivered or more than its length, or all of them while IACK is high.
+ *
+ * In all calls
+ *   - a buffer is a pointer and then its length in bytes; the pointer must be valid for that length, never null, not even for a length
+ *     of 0, for which any other pointer will do,
+ *   - a buffer that is written, and *accepted, must not overlap any other buffer of the call,
+ *   - the number handed back is 0, or that of the refusal: of several, the lowest, except where a call says otherwise,
+ *   - a refused call writes nothing, am9519a_run apart when an event is what it refuses. Bytes of a longer buffer past those named are
+ *     left as they are.
+ */
+#define AM9519A_IMAGE 528
+
+/* The chain's own bytes. Bytes 11 to 15 are 0. */
+#define AM9519A_IMAGE_COUNT 0               /* of chips, 1 to 8 */
+#define AM9519A_IMAGE_ENABLE_IN 1           /* EI of chip 0, 0 or 1 */
+#define AM9519A_IMAGE_IACK 2                /* 0 or 1 */
+#define AM9519A_IMAGE_EVENT 3               /* the event number: low byte here, high byte next; from 65,535 it rolls over to 0 */
+#define AM9519A_IMAGE_RESPONSE 5            /* 0 none, and then the next five are 0; 1 under way */
+#define AM9519A_IMAGE_RESPONSE_CHIP 6       /* 0 to 7 */
+#define AM9519A_IMAGE_RESPONSE_CHANNEL 7    /* 0 to 7, the one that was answered */
+#define AM9519A_IMAGE_RESPONSE_LEVEL 8      /* 0 to 7, where its bytes are read */
+#define AM9519A_IMAGE_RESPONSE_LENGTH 9     /* 1 to 4 */
+#define AM9519A_IMAGE_RESPONSE_DELIVERED 10 /* bytes driven so far, from 1 */
+
+/* Then eight records of 64 bytes, chip 0 first. Those past the count take part in nothing and are kept as they are. */
+#define AM9519A_RECORDS 16
+#define AM9519A_RECORD 64
+#define AM9519A_CHIP(i) (AM9519A_RECORDS + AM9519A_RECORD * (i))
+
+/* Within a record. Bytes 11 to 15 and 24 to 31 are 0. */
+#define AM9519A_CHIP_IRR 0
+#define AM9519A_CHIP_ISR 1
+#define AM9519A_CHIP_IMR 2
+#define AM9519A_CHIP_ACR 3
+#define AM9519A_CHIP_MODE 4        /* M0 rotating, M1 common vector, M2 polled, M3 GINT active high, M4 rising edges, M7 armed; M6 M5 for
+                                      data reads: 00 ISR, 01 IMR, 10 IRR, 11 ACR */
+#define AM9519A_CHIP_COMMAND 5     /* the last one written, 0 after reset */
+#define AM9519A_CHIP_LINES 6       /* bit k is the level of IREQk */
+#define AM9519A_CHIP_POINTER 7     /* the channel answered last, 0 to 7 */
+#define AM9519A_CHIP_DESTINATION 8 /* of data writes, see below */
+#define AM9519A_CHIP_LEVEL 9       /* its level, 0 to 7, and 0 unless a level is the destination */
+#define AM9519A_CHIP_PLACE 10      /* its next place, 0 to 4, and 0 likewise */
+#define AM9519A_CHIP_CODES 16      /* eight count codes, 0 to 3 for 1 to 4 bytes, by level */
+#define AM9519A_CHIP_MEMORY 32     /* response memory: the byte of a level and place is at 32 + 4 * level + place */
+
+#define AM9519A_DESTINATION_NONE 0
+#define AM9519A_DESTINATION_IMR 1
+#define AM9519A_DESTINATION_ACR 2
+#define AM9519A_DESTINATION_LEVEL 3
+
+/*
+ * An event is four bytes: kind, chip, channel, value. Those that its kind does not name are ignored.
+ * A result is two bytes: 1 and the byte, if the event read one or a chip drove one; else 0 and 0.
+ */
+#define AM9519A_EVENT 4
+#define AM9519A_RESULT 2
+
+#define AM9519A_KIND_COMMAND 1 /* chip, value: write the value to the command register */
+#define AM9519A_KIND_DATA 2    /* chip, value: write the value to the destination that a command chose */
+#define AM9519A_KIND_STATUS 3  /* chip: read the status */
+#define AM9519A_KIND_READ 4    /* chip: read the register that M6 M5 choose */
+#define AM9519A_KIND_LINE 5    /* chip, channel, value: an IREQ line takes level 0 or 1 */
+#define AM9519A_KIND_ENABLE 6  /* value: EI of chip 0 takes level 0 or 1 */
+#define AM9519A_KIND_FALL 7    /* IACK falls: a chip drives a byte, or none answers and the pulse stalls */
+#define AM9519A_KIND_RISE 8    /* IACK rises */
+
+/* The numbers handed back. */
+#define AM9519A_ACCEPTED 0
+#define AM9519A_REFUSED_CHAIN 1       /* the image, as above; am9519a_start: also a count outside 1 to 8 */
+#define AM9519A_REFUSED_CHIP 2        /* chip not below the count */
+#define AM9519A_REFUSED_CHANNEL 3     /* line event, channel above 7 */
+#define AM9519A_REFUSED_LEVEL 4       /* line or enable event, level above 1 */
+#define AM9519A_REFUSED_IACK_LOW 5    /* a write or read, kinds 1 to 4, while IACK is low */
+#define AM9519A_REFUSED_IACK 6        /* IACK is at that level already */
+#define AM9519A_REFUSED_COMMAND 7     /* undefined command: 01 to 0F, A3, A7, AB, AF, D0 to DF hex */
+#define AM9519A_REFUSED_DESTINATION 8 /* data write without a destination */
+#define AM9519A_REFUSED_PLACE 9       /* data write to a level that has all the bytes of its count */
+#define AM9519A_REFUSED_EVENTS 10     /* the event bytes are not a multiple of four */
+#define AM9519A_REFUSED_ROOM 11       /* the results or the view do not fit into the buffer */
+#define AM9519A_REFUSED_KIND 12       /* event kind outside 1 to 8 */
+
+/*
+ * Starts a chain of count chips, as they are when power comes on: reset, all lines high, every response byte equal to fill and every
+ * count code to fill modulo 4. EI and IACK are high, there is no response, the event number is 0.
+ *
+ * Writes the image, and reads nothing of it. Its length must be 528.
+ * Returns 0, or AM9519A_REFUSED_CHAIN if the length is another or count is outside 1 to 8.
+ */
+uint8_t am9519a_start(uint8_t count, uint8_t fill, uint8_t *image, size_t image_length);
+
+/*
+ * Applies the events in their order, and stops after limit of them, at the end, or at the first that is refused. SIZE_MAX is no limit.
+ *
+ * Reads the image and the events. Writes into the image the chain after the accepted events, each of which adds one to the event number,
+ * into results two bytes per accepted event from the first byte on, and into *accepted how many there were.
+ *
+ * Returns
+ *   0                        if it stopped at the limit or at the end,
+ *   AM9519A_REFUSED_CHAIN    if the image is refused, whatever the rest; nothing is written,
+ *   AM9519A_REFUSED_EVENTS   if events_length is not a multiple of four; nothing is written,
+ *   AM9519A_REFUSED_ROOM     if results has fewer than two bytes per listed event, whatever the limit; nothing is written,
+ *   another number           that of the first refused event, which is events[4 * *accepted] and on: AM9519A_REFUSED_KIND before all
+ *                            others, then the lowest that applies. Image, results and *accepted hold the events before it, which
+ *                            may be none; it and those after it have done nothing.
+ */
+uint8_t am9519a_run(uint8_t *image, size_t image_length, const uint8_t *events, size_t events_length, size_t limit, uint8_t *results,
+                    size_t results_length, size_t *accepted);
+
+/*
+ * The register view: what one chip holds.
+ *
+ * Reads the image. Writes the first 9 bytes of view.
+ * Returns 0, or AM9519A_REFUSED_CHAIN, AM9519A_REFUSED_CHIP, or AM9519A_REFUSED_ROOM if view_length is below 9.
+ */
+#define AM9519A_REGISTERS 9
+#define AM9519A_REGISTERS_EVENT 0 /* the event number: low byte here, high byte next */
+#define AM9519A_REGISTERS_IRR 2
+#define AM9519A_REGISTERS_ISR 3
+#define AM9519A_REGISTERS_IMR 4
+#define AM9519A_REGISTERS_ACR 5
+#define AM9519A_REGISTERS_MODE 6
+#define AM9519A_REGISTERS_STATUS 7  /* S7 there is a candidate, S6 EI, S5 M0, S4 M2, S3 M7, S2 to S0 the candidate's channel or 0 */
+#define AM9519A_REGISTERS_WAITING 8 /* how many channels have a request and are not masked */
+
+uint8_t am9519a_registers(const uint8_t *image, size_t image_length, uint8_t chip, uint8_t *view, size_t view_length);
+
+/*
+ * The pin view: one chip's EI, EO and GINT, and the chain's RIP, PAUSE and IACK. 0 is low and 1 is high.
+ *
+ * Reads the image. Writes the first 8 bytes of view.
+ * Returns 0, or AM9519A_REFUSED_CHAIN, AM9519A_REFUSED_CHIP, or AM9519A_REFUSED_ROOM if view_length is below 8.
+ */
+#define AM9519A_PINS 8
+#define AM9519A_PINS_EVENT 0 /* the event number: low byte here, high byte next */
+#define AM9519A_PINS_EI 2
+#define AM9519A_PINS_EO 3
+#define AM9519A_PINS_GINT 4 /* also AM9519A_RELEASED, which is what an active low GINT is while it is not active */
+#define AM9519A_PINS_RIP 5
+#define AM9519A_PINS_PAUSE 6
+#define AM9519A_PINS_IACK 7
+
+#define AM9519A_RELEASED 2
+
+uint8_t am9519a_pins(const uint8_t *image, size_t image_length, uint8_t chip, uint8_t *view, size_t view_length);
 
 #ifdef __cplusplus
 }

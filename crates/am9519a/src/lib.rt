@@ -1,7 +1,18 @@
 // The C interface: what the report generator, written in C, calls. include/am9519a.h declares it.
-// Every function takes any numbers and answers each: nothing is asked of a caller.
+// Every function takes any numbers and any bytes, and answers each: nothing is asked of a caller.
+mod views;
+
 ghost use mathlib.Core.Path.{_≡_};
 ghost use Rattle.search.specs.Candidate.{searchNumber};
+ghost use Rattle.am9519a.specs.Calls.{startCall, runCall, registersCall, pinsCall};
+use crate::views::picture_bytes;
+use crate::views::put_view;
+use crate::views::table_bytes;
+use chain::Chain;
+use chain::PinView;
+use chain::RegisterView;
+use image::reading::chain_in;
+use image::writing::put_chain;
 
 // The candidate search over register numbers: the channel, 255 for no candidate, or 254 if the pointer is above 7.
 #[no_mangle]
@@ -12,4 +23,90 @@ pub extern "C" fn am9519a_candidate(irr: u8, imr: u8, isr: u8, mode: u8, pointer
         return 254;
     }
     search::candidate_of(irr, imr, isr, mode, pointer).number()
+}
+
+// The chain at the start, into an image.
+#[no_mangle]
+pub extern "C" fn am9519a_start(count: u8, fill: u8, image: &mut [u8]) -> u8
+    ensures { λ r. ⌜ r ≡ startCall count fill (now (image .entry)) .number ⌝ }
+    ensures { λ _. ⌜ now (image .exit) ≡ startCall count fill (now (image .entry)) .buffer ⌝ }
+{
+    if image.len() != image::LENGTH {
+        return 1;
+    }
+    let started = Chain::start(count, fill);
+    let answer = started.answer;
+    let verdict = answer.verdict();
+    if !verdict.is_accepted() {
+        return verdict.number();
+    }
+    put_chain(image, started.chain);
+    0
+}
+
+// A run over a list of events, four bytes each, up to a limit.
+#[no_mangle]
+pub extern "C" fn am9519a_run(
+    image: &mut [u8],
+    events: &[u8],
+    limit: usize,
+    results: &mut [u8],
+    accepted: &mut usize,
+) -> u8
+    ensures { λ r. ⌜ r ≡ runCall (now (image .entry)) (now (events .entry)) limit (now (results .entry)) (now (accepted .entry)) .number ⌝ }
+    ensures { λ _. ⌜ now (image .exit) ≡ runCall (now (image .entry)) (now (events .entry)) limit (now (results .entry)) (now (accepted .entry)) .image ⌝ }
+    ensures { λ _. ⌜ now (results .exit) ≡ runCall (now (image .entry)) (now (events .entry)) limit (now (results .entry)) (now (accepted .entry)) .results ⌝ }
+    ensures { λ _. ⌜ now (accepted .exit) ≡ runCall (now (image .entry)) (now (events .entry)) limit (now (results .entry)) (now (accepted .entry)) .accepted ⌝ }
+{
+    if !image::is_image(image) {
+        return 1;
+    }
+    let chain = chain_in(image);
+    let verdict = run::before_any(chain, events.len(), results.len());
+    if !verdict.is_accepted() {
+        return verdict.number();
+    }
+    let ran = run::run(chain, events, limit, results);
+    put_chain(image, ran.chain);
+    *accepted = ran.accepted;
+    let last = ran.verdict;
+    last.number()
+}
+
+// The register view of a chip.
+#[no_mangle]
+pub extern "C" fn am9519a_registers(image: &[u8], chip: u8, view: &mut [u8]) -> u8
+    ensures { λ r. ⌜ r ≡ registersCall (now (image .entry)) chip (now (view .entry)) .number ⌝ }
+    ensures { λ _. ⌜ now (view .exit) ≡ registersCall (now (image .entry)) chip (now (view .entry)) .buffer ⌝ }
+{
+    if !image::is_image(image) {
+        return 1;
+    }
+    let seen = chain_in(image).register_view(chip);
+    match seen {
+        RegisterView::Table(table) => {
+            let bytes = table_bytes(table);
+            put_view(view, &bytes)
+        }
+        RegisterView::NoTable(why) => why.number(),
+    }
+}
+
+// The pin view of a chip.
+#[no_mangle]
+pub extern "C" fn am9519a_pins(image: &[u8], chip: u8, view: &mut [u8]) -> u8
+    ensures { λ r. ⌜ r ≡ pinsCall (now (image .entry)) chip (now (view .entry)) .number ⌝ }
+    ensures { λ _. ⌜ now (view .exit) ≡ pinsCall (now (image .entry)) chip (now (view .entry)) .buffer ⌝ }
+{
+    if !image::is_image(image) {
+        return 1;
+    }
+    let seen = chain_in(image).pin_view(chip);
+    match seen {
+        PinView::Picture(picture) => {
+            let bytes = picture_bytes(picture);
+            put_view(view, &bytes)
+        }
+        PinView::NoPicture(why) => why.number(),
+    }
 }

@@ -1,14 +1,9 @@
-// What a run takes before any event, and its events one by one.
-ghost use mathlib.Core.Bool.{true, not};
-ghost use mathlib.Core.List.{[], _∷_};
+// The events of a run, one by one.
+ghost use mathlib.Core.Bool.{true};
 ghost use mathlib.Core.Path.{_≡_};
-ghost use Prim.Native.Nat.{_+_, _*_, _%_, _≤_, min};
-ghost use lib.Dec.{eqb, ltb};
+ghost use Prim.Native.Nat.{_+_, _*_, _≤_, min};
 ghost use lib.ListN.{length as lengthOf};
-ghost use Rattle.refusal.specs.Numbers.{firstOf};
-ghost use Rattle.refusal.specs.declared.Refusal.the-variants.{BrokenEvent, ShortResults};
 ghost use Rattle.chain.specs.Answers.{handed};
-ghost use Rattle.chain.specs.Refusals.{notSound};
 ghost use Rattle.chain.specs.Sound.{sound};
 ghost use Rattle.run.specs.Run.{stepOf, noted, runFrom};
 use crate::Listed;
@@ -18,24 +13,6 @@ use chain::Chain;
 use chain::Outcome;
 use refusal::Refusal;
 use refusal::Verdict;
-
-// 1, 10 and 11 come before any event: for a list of so many bytes and events, and so much room for results. The events are asked to
-// be in the bytes so that twice their number is a number of bytes too.
-pub(crate) fn before_any(chain: Chain, length: usize, listed: usize, room: usize) -> Verdict
-    requires { ⌜ 2 * listed ≤ length ⌝ }
-    ensures { λ r. ⌜ r ≡ firstOf (notSound chain ∷ (not (eqb (length % 4) 0), BrokenEvent) ∷ (ltb room (2 * listed), ShortResults) ∷ []) ⌝ }
-{
-    if !chain.is_sound() {
-        return Verdict::Refused(Refusal::NotSound);
-    }
-    if length % 4 != 0 {
-        return Verdict::Refused(Refusal::BrokenEvent);
-    }
-    if room < 2 * listed {
-        return Verdict::Refused(Refusal::ShortResults);
-    }
-    Verdict::Accepted
-}
 
 // The smaller of two.
 pub(crate) fn least(a: usize, b: usize) -> usize

@@ -1,15 +1,22 @@
 // Runs: lists of events as lent bytes, applied to one chain up to a limit, the end or the first refusal.
-// The records and the public call, `run`, stand here. What stands behind it asks for what it has checked.
+// The records and the public calls, `run` and what a run takes before any event, stand here. What stands behind it asks for what it has checked.
 mod events;
 mod list;
 
+ghost use mathlib.Core.Bool.{not};
+ghost use mathlib.Core.List.{[], _∷_};
 ghost use mathlib.Core.Path.{_≡_};
+ghost use Prim.Native.Nat.{_*_, _/_, _%_};
+ghost use lib.Dec.{eqb, ltb};
+ghost use Rattle.refusal.specs.Numbers.{firstOf};
+ghost use Rattle.refusal.specs.declared.Refusal.the-variants.{BrokenEvent, ShortResults};
+ghost use Rattle.chain.specs.Refusals.{notSound};
 ghost use Rattle.run.specs.Run.{runOf};
-use crate::events::before_any;
 use crate::events::least;
 use crate::events::perform;
 use chain::Chain;
 use chain::Event;
+use refusal::Refusal;
 use refusal::Verdict;
 
 // What four bytes of a list are: one of the eight events, or a kind outside 1 to 8.
@@ -32,9 +39,25 @@ pub fn run(chain: Chain, bytes: &[u8], limit: usize, results: &mut [u8]) -> Ran
 {
     let listed = bytes.len() / 4;
     let count = least(limit, listed);
-    let verdict = before_any(chain, bytes.len(), listed, results.len());
+    let verdict = before_any(chain, bytes.len(), results.len());
     if !verdict.is_accepted() {
         return Ran::stopped(verdict, 0, chain);
     }
     perform(chain, bytes, count, results)
+}
+
+// 1, 10 and 11 come before any event: for a list of so many bytes, and so much room for results.
+pub fn before_any(chain: Chain, length: usize, room: usize) -> Verdict
+    ensures { λ r. ⌜ r ≡ firstOf (notSound chain ∷ (not (eqb (length % 4) 0), BrokenEvent) ∷ (ltb room (2 * (length / 4)), ShortResults) ∷ []) ⌝ }
+{
+    if !chain.is_sound() {
+        return Verdict::Refused(Refusal::NotSound);
+    }
+    if length % 4 != 0 {
+        return Verdict::Refused(Refusal::BrokenEvent);
+    }
+    if room < 2 * (length / 4) {
+        return Verdict::Refused(Refusal::ShortResults);
+    }
+    Verdict::Accepted
 }

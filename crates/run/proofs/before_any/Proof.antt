@@ -1,10 +1,10 @@
--- `run::events::before_any` meets its contract.
+-- `run::before_any` meets its contract.
 -- Assumes nothing.
 use borrow.Author.Needs.{needs}
 use borrow.Author.Tests.{ne-eqb, not-true, lt-ltb, not-false, le-ltb}
 use Rattle.run.specs.Run.{beforeAny}
-use Rattle.run.proofs.events.before_any.Statement.{statement}
-use Rattle.run.proofs.events.before_any.Tie as tie
+use Rattle.run.proofs.before_any.Statement.{statement}
+use Rattle.run.proofs.before_any.Tie as tie
 
 is-sound-requires : tie.Need-is-sound-requires
 is-sound-requires c κs = search needs

@@ -1,0 +1,92 @@
+-- `am9519a::am9519a_run` meets its contract.
+-- Assumes nothing.
+use mathlib.Core.Bool.{true}
+use mathlib.Core.Path.{_≡_, sym, ap, _∙_}
+use borrow.Author.Tests.{not-true, not-false}
+use borrow.Author.Needs.{needs}
+use Rattle.refusal.specs.Numbers.{verdictNumber}
+use Rattle.run.specs.Run.{beforeAny, runOf}
+use Rattle.image.specs.Layout.{imageOf}
+use Rattle.image.specs.Reading.{isImage, chainIn}
+use Rattle.image.proofs.OneToOne.{image-length}
+use Rattle.am9519a.proofs.Told.{run-no-image, run-refused, run-done}
+use Rattle.am9519a.proofs.am9519a_run.Statement.{statement}
+use Rattle.am9519a.proofs.am9519a_run.Tie as tie
+
+is-image-requires : tie.Need-is-image-requires
+is-image-requires c κs = search needs
+
+same-length : tie.Need-same-length
+same-length c = search needs
+
+returns : tie.Need-returns
+returns c =
+    let told = run-no-image (c .before .before .before .before .before .before .args .image .now) (c .before .before .before .before .before .before .args .events .now) (c .before .before .before .before .before .before .args .limit) (c .before .before .before .before .before .before .args .results .now) (c .before .before .before .before .before .before .args .accepted .now) (sym (c .before .is-image .ensures) ∙ not-true (c .before .is-image .result) (c .if1 .taken)) in
+    (sym (ap (λ r. r .number) told), (sym (ap (λ r. r .image) told), (sym (ap (λ r. r .results) told), sym (ap (λ r. r .accepted) told))))
+
+chain-in-requires : tie.Need-chain-in-requires
+chain-in-requires c κs = image-length (c .before .before .before .before .before .before .before .args .image .now) (sym (c .before .before .is-image .ensures) ∙ not-false (c .before .before .is-image .result) (c .before .if1 .left))
+
+before-any-requires : tie.Need-before-any-requires
+before-any-requires c κs = search needs
+
+is-accepted-requires : tie.Need-is-accepted-requires
+is-accepted-requires c κs = search needs
+
+number-requires : tie.Need-number-requires
+number-requires c κs = search needs
+
+same-length-2 : tie.Need-same-length-2
+same-length-2 c = search needs
+
+returns-2 : tie.Need-returns-2
+unfolding beforeAny
+returns-2 c =
+    let on : isImage (c .before .before .before .before .before .before .before .before .before .before .before .before .args .image .now) ≡ true = sym (c .before .before .before .before .before .before .before .is-image .ensures) ∙ not-false (c .before .before .before .before .before .before .before .is-image .result) (c .before .before .before .before .before .before .if1 .left) in
+    let is : c .before .before .before .before-any .result ≡ beforeAny (chainIn (c .before .before .before .before .before .before .before .before .before .before .before .before .args .image .now)) (c .before .before .before .before .before .before .before .before .before .before .before .before .args .events .now) (c .before .before .before .before .before .before .before .before .before .before .before .before .args .results .now) = c .before .before .before .before-any .ensures ∙ ap (λ s. beforeAny s (c .before .before .before .before .before .before .before .before .before .before .before .before .args .events .now) (c .before .before .before .before .before .before .before .before .before .before .before .before .args .results .now)) (c .before .before .before .before .chain-in .ensures) in
+    let told = run-refused (c .before .before .before .before .before .before .before .before .before .before .before .before .args .image .now) (c .before .before .before .before .before .before .before .before .before .before .before .before .args .events .now) (c .before .before .before .before .before .before .before .before .before .before .before .before .args .limit) (c .before .before .before .before .before .before .before .before .before .before .before .before .args .results .now) (c .before .before .before .before .before .before .before .before .before .before .before .before .args .accepted .now) (c .before .before .before .before-any .result) on is (sym (c .before .before .is-accepted .ensures) ∙ not-true (c .before .before .is-accepted .result) (c .before .if2 .taken)) in
+    (c .number .ensures ∙ sym (ap (λ r. r .number) told), (sym (ap (λ r. r .image) told), (sym (ap (λ r. r .results) told), sym (ap (λ r. r .accepted) told))))
+
+run-requires : tie.Need-run-requires
+run-requires c κs = search needs
+
+put-chain-requires : tie.Need-put-chain-requires
+put-chain-requires c κs = image-length (c .before .before .before .before .before .before .before .before .before .before .before .before .before .before .before .before .args .image .now) (sym (c .before .before .before .before .before .before .before .before .before .before .before .is-image .ensures) ∙ not-false (c .before .before .before .before .before .before .before .before .before .before .before .is-image .result) (c .before .before .before .before .before .before .before .before .before .before .if1 .left))
+
+number-requires-2 : tie.Need-number-requires-2
+number-requires-2 c κs = search needs
+
+same-length-3 : tie.Need-same-length-3
+same-length-3 c = search needs
+
+same-length-4 : tie.Need-same-length-4
+same-length-4 c = search needs
+
+returns-3 : tie.Need-returns-3
+unfolding beforeAny
+returns-3 c =
+    let on : isImage (c .before .before .before .before .before .before .before .before .before .before .before .before .before .before .before .before .before .before .before .before .args .image .now) ≡ true = sym (c .before .before .before .before .before .before .before .before .before .before .before .before .before .before .before .is-image .ensures) ∙ not-false (c .before .before .before .before .before .before .before .before .before .before .before .before .before .before .before .is-image .result) (c .before .before .before .before .before .before .before .before .before .before .before .before .before .before .if1 .left) in
+    let is : c .before .before .before .before .before .before .before .before .before .before .before .before-any .result ≡ beforeAny (chainIn (c .before .before .before .before .before .before .before .before .before .before .before .before .before .before .before .before .before .before .before .before .args .image .now)) (c .before .before .before .before .before .before .before .before .before .before .before .before .before .before .before .before .before .before .before .before .args .events .now) (c .before .before .before .before .before .before .before .before .before .before .before .before .before .before .before .before .before .before .before .before .args .results .now) = c .before .before .before .before .before .before .before .before .before .before .before .before-any .ensures ∙ ap (λ s. beforeAny s (c .before .before .before .before .before .before .before .before .before .before .before .before .before .before .before .before .before .before .before .before .args .events .now) (c .before .before .before .before .before .before .before .before .before .before .before .before .before .before .before .before .before .before .before .before .args .results .now)) (c .before .before .before .before .before .before .before .before .before .before .before .before .chain-in .ensures) in
+    let told = run-done (c .before .before .before .before .before .before .before .before .before .before .before .before .before .before .before .before .before .before .before .before .args .image .now) (c .before .before .before .before .before .before .before .before .before .before .before .before .before .before .before .before .before .before .before .before .args .events .now) (c .before .before .before .before .before .before .before .before .before .before .before .before .before .before .before .before .before .before .before .before .args .limit) (c .before .before .before .before .before .before .before .before .before .before .before .before .before .before .before .before .before .before .before .before .args .results .now) (c .before .before .before .before .before .before .before .before .before .before .before .before .before .before .before .before .before .before .before .before .args .accepted .now) (c .before .before .before .before .before .before .before .before .before .before .before .before-any .result) on is (sym (c .before .before .before .before .before .before .before .before .before .before .is-accepted .ensures) ∙ not-false (c .before .before .before .before .before .before .before .before .before .before .is-accepted .result) (c .before .before .before .before .before .before .before .before .before .if2 .left)) in
+    let ran : c .before .before .before .before .before .before .before .run .result ≡ runOf (chainIn (c .before .before .before .before .before .before .before .before .before .before .before .before .before .before .before .before .before .before .before .before .args .image .now)) (c .before .before .before .before .before .before .before .before .before .before .before .before .before .before .before .before .before .before .before .before .args .events .now) (c .before .before .before .before .before .before .before .before .before .before .before .before .before .before .before .before .before .before .before .before .args .limit) (c .before .before .before .before .before .before .before .before .before .before .before .before .before .before .before .before .before .before .before .before .args .results .now) .ran = c .before .before .before .before .before .before .before .run .ensures .0 ∙ ap (λ s. runOf s (c .before .before .before .before .before .before .before .before .before .before .before .before .before .before .before .before .before .before .before .before .args .events .now) (c .before .before .before .before .before .before .before .before .before .before .before .before .before .before .before .before .before .before .before .before .args .limit) (c .before .before .before .before .before .before .before .before .before .before .before .before .before .before .before .before .before .before .before .before .args .results .now) .ran) (c .before .before .before .before .before .before .before .before .before .before .before .before .chain-in .ensures) in
+    (c .number2 .ensures ∙ ap (λ r. verdictNumber (r .verdict)) ran ∙ sym (ap (λ r. r .number) told), (c .before .before .before .put-chain .ensures ∙ ap (λ r. imageOf (r .chain)) ran ∙ sym (ap (λ r. r .image) told), (c .before .before .before .before .before .before .before .run .ensures .1 ∙ ap (λ s. runOf s (c .before .before .before .before .before .before .before .before .before .before .before .before .before .before .before .before .before .before .before .before .args .events .now) (c .before .before .before .before .before .before .before .before .before .before .before .before .before .before .before .before .before .before .before .before .args .limit) (c .before .before .before .before .before .before .before .before .before .before .before .before .before .before .before .before .before .before .before .before .args .results .now) .results) (c .before .before .before .before .before .before .before .before .before .before .before .before .chain-in .ensures) ∙ sym (ap (λ r. r .results) told), ap (λ r. r .accepted) ran ∙ sym (ap (λ r. r .accepted) told))))
+
+pub am9519a-run-spec : {M : Type 1} → statement M
+am9519a-run-spec =
+    tie.close
+    (tie.spec
+    is-image-requires
+    same-length
+    returns
+    chain-in-requires
+    before-any-requires
+    is-accepted-requires
+    number-requires
+    same-length-2
+    returns-2
+    run-requires
+    put-chain-requires
+    number-requires-2
+    same-length-3
+    same-length-4
+    returns-3)

@@ -1,0 +1,71 @@
+-- The chain in an image, and which bytes are an image: those that writing what was read gives again.
+use mathlib.Core.Bool.{Bool, true, false, cond, _&&_}
+use mathlib.Core.List.{List, [], _∷_}
+use Prim.Native.Nat.{ℕ, zero, suc, _+_, _*_}
+use lib.Dec.{eqb}
+use lib.ListN.{length, getD, take, drop}
+use Rattle.chip.specs.declared.Chip.{Chip}
+use Rattle.chip.specs.declared.Destination.{Destination}
+use Rattle.chip.specs.declared.Destination.the-variants.{Nowhere, Imr, Acr, Level}
+use Rattle.chain.specs.declared.Chain.{Chain}
+use Rattle.chain.specs.declared.Response.{Response}
+use Rattle.chain.specs.declared.Response.the-variants.{Idle, UnderWay}
+use Rattle.image.specs.Layout.{imageOf}
+
+-- byte n
+abbrev pub byte : List ℕ → ℕ → ℕ
+byte b n = getD b n 0
+
+abbrev pub destinationIn : ℕ → ℕ → ℕ → Destination
+destinationIn kind level place =
+    cond (eqb kind 1) Imr (cond (eqb kind 2) Acr (cond (eqb kind 3) (Level level place) Nowhere))
+
+-- the chip whose record begins here
+unfoldable pub chipIn : List ℕ → Chip
+chipIn r =
+    record {
+      irr = byte r 0;
+      isr = byte r 1;
+      imr = byte r 2;
+      acr = byte r 3;
+      mode = byte r 4;
+      command = byte r 5;
+      memory = take 32 (drop 32 r);
+      counts = take 8 (drop 16 r);
+      lines = byte r 6;
+      pointer = byte r 7;
+      destination = destinationIn (byte r 8) (byte r 9) (byte r 10);
+    }
+
+-- so many chips, whose records begin here
+abbrev pub chipsIn : ℕ → List ℕ → List Chip
+chipsIn zero b = []
+chipsIn (suc n) b = chipIn b ∷ chipsIn n (drop 64 b)
+
+unfoldable pub responseIn : List ℕ → Response
+responseIn b =
+    cond (eqb (byte b 5) 1)
+    (UnderWay (record { chip = byte b 6; channel = byte b 7; level = byte b 8; length = byte b 9; delivered = byte b 10 }))
+    Idle
+
+unfoldable pub chainIn : List ℕ → Chain
+chainIn b =
+    record {
+      count = byte b 0;
+      chips = chipsIn 8 (drop 16 b);
+      enable = eqb (byte b 1) 1;
+      iack = eqb (byte b 2) 1;
+      response = responseIn b;
+      event = byte b 3 + 256 * byte b 4;
+    }
+
+-- the same bytes
+abbrev pub same : List ℕ → List ℕ → Bool
+same [] [] = true
+same [] (y ∷ ys) = false
+same (x ∷ xs) [] = false
+same (x ∷ xs) (y ∷ ys) = eqb x y && same xs ys
+
+-- an image is 528 bytes long and of the layout
+unfoldable pub isImage : List ℕ → Bool
+isImage b = eqb (length b) 528 && same (imageOf (chainIn b)) b

@@ -1,0 +1,119 @@
+// The chain in an image.
+ghost use mathlib.Core.Path.{_≡_};
+ghost use Prim.Native.Nat.{_+_, _*_, _≤_};
+ghost use lib.ListN.{length, take, drop};
+ghost use Rattle.image.specs.Reading.{destinationIn, chipIn, chipsIn, responseIn, chainIn};
+use crate::writing::put_bytes;
+use chain::Chain;
+use chain::Reply;
+use chain::Response;
+use chip::Chip;
+use chip::Destination;
+
+// The destination that three bytes of a record name.
+fn destination_in(kind: u8, level: u8, place: u8) -> Destination
+    ensures { λ r. ⌜ r ≡ destinationIn kind level place ⌝ }
+{
+    match kind {
+        1 => Destination::Imr,
+        2 => Destination::Acr,
+        3 => Destination::Level(level, place),
+        _ => Destination::Nowhere,
+    }
+}
+
+// The count codes of a record.
+fn counts_in(r: &[u8]) -> [u8; 8]
+    requires { ⌜ 64 ≤ length (now r) ⌝ }
+    ensures { λ c. ⌜ c ≡ take 8 (drop 16 (now (r .entry))) ⌝ }
+{
+    let mut counts = [0u8; 8];
+    put_bytes(&mut counts, 0, &r[16..24]);
+    counts
+}
+
+// The response memory of a record.
+fn memory_in(r: &[u8]) -> [u8; 32]
+    requires { ⌜ 64 ≤ length (now r) ⌝ }
+    ensures { λ m. ⌜ m ≡ take 32 (drop 32 (now (r .entry))) ⌝ }
+{
+    let mut memory = [0u8; 32];
+    put_bytes(&mut memory, 0, &r[32..64]);
+    memory
+}
+
+// The chip whose record begins here.
+pub fn chip_in(r: &[u8]) -> Chip
+    requires { ⌜ 64 ≤ length (now r) ⌝ }
+    ensures { λ c. ⌜ c ≡ chipIn (now (r .entry)) ⌝ }
+{
+    Chip {
+        irr: r[0],
+        isr: r[1],
+        imr: r[2],
+        acr: r[3],
+        mode: r[4],
+        command: r[5],
+        memory: memory_in(r),
+        counts: counts_in(r),
+        lines: r[6],
+        pointer: r[7],
+        destination: destination_in(r[8], r[9], r[10]),
+    }
+}
+
+// The response that the head names.
+pub(crate) fn response_in(image: &[u8]) -> Response
+    requires { ⌜ 16 ≤ length (now image) ⌝ }
+    ensures { λ r. ⌜ r ≡ responseIn (now (image .entry)) ⌝ }
+{
+    if image[5] == 1 {
+        Response::UnderWay(Reply {
+            chip: image[6],
+            channel: image[7],
+            level: image[8],
+            length: image[9],
+            delivered: image[10],
+        })
+    } else {
+        Response::Idle
+    }
+}
+
+// The event number: its low byte first.
+pub(crate) fn event_of(low: u8, high: u8) -> u16
+    ensures { λ r. ⌜ r ≡ low + 256 * high ⌝ }
+{
+    low as u16 + 256 * high as u16
+}
+
+// The eight chips of an image.
+fn chips_in(image: &[u8]) -> [Chip; 8]
+    requires { ⌜ length (now image) ≡ 528 ⌝ }
+    ensures { λ r. ⌜ r ≡ chipsIn 8 (drop 16 (now (image .entry))) ⌝ }
+{
+    let zero = Chip::zero();
+    let mut chips = [zero; 8];
+    for i in 0usize..8 {
+        let at = 16 + 64 * i;
+        chips[i] = chip_in(&image[at..]);
+    }
+    chips
+}
+
+// The chain of an image.
+pub fn chain_in(image: &[u8]) -> Chain
+    requires { ⌜ length (now image) ≡ 528 ⌝ }
+    ensures { λ r. ⌜ r ≡ chainIn (now (image .entry)) ⌝ }
+{
+    let chips = chips_in(image);
+    let response = response_in(image);
+    Chain {
+        count: image[0],
+        chips: chips,
+        enable: image[1] == 1,
+        iack: image[2] == 1,
+        response: response,
+        event: event_of(image[3], image[4]),
+    }
+}

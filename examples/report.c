@@ -1,0 +1,69 @@
+/*
+ * The picture and the table of one state, for a chain of two chips.
+ *
+ * Chip 1 has its channel 5 requested and unmasked, and drives the first byte of its response: IACK is low, RIP is low.
+ */
+#include "am9519a.h"
+
+#include <stdint.h>
+#include <stdio.h>
+
+#define CHIPS 2
+
+static const uint8_t events[] = {
+    /* kind, chip, channel, value */
+    AM9519A_KIND_COMMAND, 0, 0, 0xA1, /* arm chip 0: it lets Enable In pass */
+    AM9519A_KIND_COMMAND, 1, 0, 0xFD, /* chip 1: channel 5 answers with four bytes */
+    AM9519A_KIND_DATA,    1, 0, 0xCD, /* the first of them */
+    AM9519A_KIND_COMMAND, 1, 0, 0x2D, /* unmask channel 5 */
+    AM9519A_KIND_COMMAND, 1, 0, 0xA1, /* arm chip 1 */
+    AM9519A_KIND_LINE,    1, 5, 0,    /* IREQ5 falls: a request */
+    AM9519A_KIND_FALL,    0, 0, 0,    /* the first pulse */
+};
+#define LISTED (sizeof events / AM9519A_EVENT)
+
+/* Tells of a refusal, and whether there was one. */
+static int refused(const char *call, unsigned number) {
+    if (number != AM9519A_ACCEPTED) printf("%s refused %u\n", call, number);
+    return number != AM9519A_ACCEPTED;
+}
+
+static unsigned number_at(const uint8_t *low) { return low[0] + 256u * low[1]; }
+
+static int print_pins(const uint8_t *image, uint8_t chip) {
+    uint8_t pins[AM9519A_PINS];
+    if (refused("pins", am9519a_pins(image, AM9519A_IMAGE, chip, pins, sizeof pins))) return 1;
+    printf("pins %u chip %u EI %u EO %u GINT %c RIP %u PAUSE %u IACK %u\n", number_at(pins + AM9519A_PINS_EVENT), chip,
+           pins[AM9519A_PINS_EI], pins[AM9519A_PINS_EO], "01z"[pins[AM9519A_PINS_GINT]], pins[AM9519A_PINS_RIP],
+           pins[AM9519A_PINS_PAUSE], pins[AM9519A_PINS_IACK]);
+    return 0;
+}
+
+static int print_registers(const uint8_t *image, uint8_t chip) {
+    uint8_t view[AM9519A_REGISTERS];
+    if (refused("registers", am9519a_registers(image, AM9519A_IMAGE, chip, view, sizeof view))) return 1;
+    printf("registers %u chip %u IRR %02X ISR %02X IMR %02X ACR %02X MODE %02X STATUS %02X WAITING %u\n",
+           number_at(view + AM9519A_REGISTERS_EVENT), chip, view[AM9519A_REGISTERS_IRR], view[AM9519A_REGISTERS_ISR],
+           view[AM9519A_REGISTERS_IMR], view[AM9519A_REGISTERS_ACR], view[AM9519A_REGISTERS_MODE], view[AM9519A_REGISTERS_STATUS],
+           view[AM9519A_REGISTERS_WAITING]);
+    return 0;
+}
+
+int main(void) {
+    uint8_t image[AM9519A_IMAGE], results[LISTED * AM9519A_RESULT];
+    size_t accepted;
+
+    if (refused("start", am9519a_start(CHIPS, 0, image, sizeof image))) return 1;
+    /* A refusal of the image, the lengths or the room comes before any event, and leaves *accepted as it was. */
+    accepted = 0;
+    unsigned number = am9519a_run(image, sizeof image, events, sizeof events, SIZE_MAX, results, sizeof results, &accepted);
+    if (number != AM9519A_ACCEPTED) {
+        printf("event %zu refused %u\n", accepted + 1, number);
+        return 1;
+    }
+    for (size_t k = 0; k < accepted; k++)
+        if (results[2 * k]) printf("event %zu byte %02X\n", k + 1, results[2 * k + 1]);
+    for (uint8_t chip = 0; chip < CHIPS; chip++)
+        if (print_pins(image, chip) || print_registers(image, chip)) return 1;
+    return 0;
+}
