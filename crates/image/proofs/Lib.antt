@@ -1,3 +1,4 @@
 pub mod Lists
-pub mod Records
 pub mod OneToOne
+pub mod Readback
+pub mod Records

@@ -1,16 +1,27 @@
 -- The image of a chain and the chain of an image: reading the one gives the other back, and so does writing.
 -- Assumes nothing.
-use mathlib.Core.Bool.{true}
-use mathlib.Core.List.{List}
-use mathlib.Core.Path.{_≡_}
-use Prim.Native.Nat.{ℕ}
-use borrow.Author.Tests.{eqb-true}
+use mathlib.Core.Bool.{Bool, true, _&&_}
+use mathlib.Core.List.{List, _∷_, _++_}
+use mathlib.Core.Path.{_≡_, sym, ap, ap₂, subst, _∙_}
+use Prim.Native.Nat.{ℕ, _+_, _*_, _/_, _%_, _≤_, _<_}
+use native.Mathlib.Omega.{arith}
+use borrow.Author.Tests.{eqb-true, eq-eqb}
 use lib.Dec.{eqb}
-use lib.ListN.{length}
+use lib.ListN.{length, drop, replicate, length-append, length-take, length-drop}
+use lib.Seq.{drop-at, drop-drop}
+use Rattle.bits.specs.Below.{digit}
 use Rattle.bits.proofs.Below.{both-left, both-right}
-use Rattle.image.specs.Layout.{imageOf}
-use Rattle.image.specs.Reading.{chainIn, same, isImage}
-use Rattle.image.proofs.Lists.{same-is}
+use Rattle.chip.specs.Fields.{noChip}
+use Rattle.chip.specs.declared.Chip.{Chip}
+use Rattle.chain.specs.Fields.{chipAt}
+use Rattle.chain.specs.declared.Chain.{Chain}
+use Rattle.chain.specs.declared.Response.{Response}
+use Rattle.image.specs.Layout.{head, records, imageOf}
+use Rattle.image.specs.OneToOne.{WholeChip, Whole, OneToOne}
+use Rattle.image.specs.Reading.{chipIn, chipsIn, responseIn, chainIn, same, isImage}
+use Rattle.image.proofs.Lists.{same-is, same-self}
+use Rattle.image.proofs.Readback.{digit-back, response-back, chips-back}
+use Rattle.image.proofs.Records.{head-sixteen, records-length, chips-at, chips-length}
 
 -- an image has 528 bytes
 pub image-length : (b : List ℕ) → isImage b ≡ true → length b ≡ 528
@@ -18,6 +29,67 @@ unfolding isImage
 image-length b is = eqb-true (length b) 528 (both-left (eqb (length b) 528) (same (imageOf (chainIn b)) b) is)
 
 -- writing what was read gives the same image
-pub written-again : (b : List ℕ) → isImage b ≡ true → imageOf (chainIn b) ≡ b
+pub written-back : (b : List ℕ) → isImage b ≡ true → imageOf (chainIn b) ≡ b
 unfolding isImage
-written-again b is = same-is (imageOf (chainIn b)) b (both-right (eqb (length b) 528) (same (imageOf (chainIn b)) b) is)
+written-back b is = same-is (imageOf (chainIn b)) b (both-right (eqb (length b) 528) (same (imageOf (chainIn b)) b) is)
+
+-- reading the image of a chain gives that chain
+pub read-back : (s : Chain) → Whole s → chainIn (imageOf s) ≡ s
+unfolding chainIn imageOf head
+read-back s whole =
+    let b : List ℕ = imageOf s in
+    let with-these : List Chip → Bool → Bool → Response → ℕ → Chain =
+    λ chips enable iack response event. record { count = s .count; chips = chips; enable = enable; iack = iack; response = response; event = event } in
+    let chips : chipsIn 8 (drop 16 b) ≡ s .chips =
+    ap (chipsIn 8) (drop-at (head s) (records (s .chips)) 16 (head-sixteen s))
+    ∙ ap (λ (n : ℕ). chipsIn n (records (s .chips))) (sym (whole .eight-chips))
+    ∙ chips-back (s .chips) (λ i h. whole .whole-chips i (subst (λ n. i < n) (whole .eight-chips) h)) in
+    let event : s .event % 256 + 256 * (s .event / 256) ≡ s .event = omega arith in
+    ap (λ cs. with-these cs (eqb (digit (s .enable)) 1) (eqb (digit (s .iack)) 1) (responseIn b) (s .event % 256 + 256 * (s .event / 256))) chips
+    ∙ ap (λ level. with-these (s .chips) level (eqb (digit (s .iack)) 1) (responseIn b) (s .event % 256 + 256 * (s .event / 256))) (digit-back (s .enable))
+    ∙ ap (λ level. with-these (s .chips) (s .enable) level (responseIn b) (s .event % 256 + 256 * (s .event / 256))) (digit-back (s .iack))
+    ∙ ap (λ r. with-these (s .chips) (s .enable) (s .iack) r (s .event % 256 + 256 * (s .event / 256))) (response-back (s .count) (digit (s .enable)) (digit (s .iack)) (s .event % 256) (s .event / 256) (s .response) (replicate 5 0) (records (s .chips)))
+    ∙ ap (with-these (s .chips) (s .enable) (s .iack) (s .response)) event
+
+-- the image of a chain has 528 bytes
+pub written-length : (s : Chain) → Whole s → length (imageOf s) ≡ 528
+unfolding imageOf
+written-length s whole =
+    omega (arith, length-append (head s) (records (s .chips)), head-sixteen s, records-length (s .chips) (λ i h. whole .whole-chips i (subst (λ n. i < n) (whole .eight-chips) h)), whole .eight-chips)
+
+-- and is one
+pub of-the-layout : (s : Chain) → Whole s → isImage (imageOf s) ≡ true
+unfolding isImage
+of-the-layout s whole =
+    ap₂ (λ long is. long && is) (eq-eqb (length (imageOf s)) 528 (written-length s whole))
+    (ap (λ r. same (imageOf r) (imageOf s)) (read-back s whole) ∙ same-self (imageOf s))
+
+-- what is read from a record that is all there is whole
+whole-chip : (r : List ℕ) → 64 ≤ length r → WholeChip (chipIn r)
+unfolding chipIn
+whole-chip r long =
+    record {
+      eight-codes = omega (arith, length-take 8 (drop 16 r), length-drop 16 r, long);
+      all-memory = omega (arith, length-take 32 (drop 32 r), length-drop 32 r, long);
+    }
+
+-- the chain of as many bytes as an image has is whole
+pub read-whole : (b : List ℕ) → length b ≡ 528 → Whole (chainIn b)
+unfolding chainIn
+read-whole b long =
+    record {
+      eight-chips = chips-length 8 (drop 16 b);
+      whole-chips =
+        λ i h.
+        subst WholeChip (sym (chips-at 8 (drop 16 b) i noChip h))
+        (whole-chip (drop (64 * i) (drop 16 b)) (omega (arith, h, long, length-drop (64 * i) (drop 16 b), length-drop 16 b)));
+    }
+
+pub one-to-one : OneToOne
+one-to-one =
+    record {
+      read-back = read-back;
+      of-the-layout = of-the-layout;
+      written-back = written-back;
+      read-whole = λ b is. read-whole b (image-length b is);
+    }

@@ -2,12 +2,13 @@
 -- Assumes nothing.
 use mathlib.Core.List.{List, [], _∷_, _++_, append-nil, append-assoc}
 use mathlib.Core.Path.{_≡_, refl, sym, ap, ap₂, _∙_}
-use Prim.Native.Nat.{ℕ, zero, suc, _+_, _*_, _<_}
-use native.Mathlib.Nat.{not-suc-le-zero, le-of-suc-le-suc}
+use Prim.Native.Nat.{ℕ, zero, suc, _+_, _*_, _<_, suc-le-suc}
+use native.Mathlib.Nat.{zero-lt-suc, not-suc-le-zero, le-of-suc-le-suc}
 use native.Mathlib.Omega.{arith}
 use native.Mathlib.Numerals.{add-one}
 use lib.ListN.{length, getD, take, drop, replicate, length-append, length-take, drop-of-length-le}
 use lib.Seq.{take-at, drop-drop}
+use Rattle.chip.specs.Fields.{noChip}
 use Rattle.chip.specs.declared.Chip.{Chip}
 use Rattle.chip.specs.declared.Destination.{Destination}
 use Rattle.chip.specs.declared.Destination.the-variants.{Nowhere, Imr, Acr, Level}
@@ -16,6 +17,7 @@ use Rattle.chain.specs.declared.Response.{Response}
 use Rattle.chain.specs.declared.Response.the-variants.{Idle, UnderWay}
 use Rattle.image.specs.Layout.{destinationBytes, registerBytes, chipRecord, responseBytes, head, records, over}
 use Rattle.image.specs.Reading.{chipIn, chipsIn}
+use Rattle.image.specs.OneToOne.{WholeChip}
 use Rattle.image.proofs.Lists.{over-next}
 
 -- a destination's bytes, one by one
@@ -48,11 +50,6 @@ response-eleven (UnderWay r) = refl
 pub head-sixteen : (s : Chain) → length (head s) ≡ 16
 unfolding head
 head-sixteen s = ap (λ (n : ℕ). suc (suc (suc (suc (suc n))))) (response-eleven (s .response))
-
--- a chip's arrays have the lengths of its record
-pub record WholeChip (c : Chip) : Type 0 where
-  pub eight-codes : length (c .counts) ≡ 8
-  pub all-memory : length (c .memory) ≡ 32
 
 pub record-length : (c : Chip) → WholeChip c → length (chipRecord c) ≡ 64
 unfolding chipRecord
@@ -108,3 +105,10 @@ chips-at (suc n) b (suc i) d h =
 pub chips-length : (n : ℕ) (b : List ℕ) → length (chipsIn n b) ≡ n
 chips-length zero b = refl
 chips-length (suc n) b = ap suc (chips-length n (drop 64 b))
+
+-- each record is 64 bytes
+pub records-length : (cs : List Chip) → ((i : ℕ) → i < length cs → WholeChip (getD cs i noChip)) → length (records cs) ≡ 64 * length cs
+records-length [] whole = refl
+records-length (c ∷ cs) whole =
+    let others : length (records cs) ≡ 64 * length cs = records-length cs (λ i h. whole (suc i) (suc-le-suc h)) in
+    omega (arith, length-append (chipRecord c) (records cs), record-length c (whole 0 (zero-lt-suc (length cs))), others)

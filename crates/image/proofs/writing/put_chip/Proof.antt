@@ -5,7 +5,8 @@ use native.Mathlib.Omega.{arith}
 use lib.ListN.{replicate}
 use borrow.Author.Needs.{needs}
 use Rattle.image.specs.Layout.{over}
-use Rattle.image.proofs.Records.{WholeChip, record-written}
+use Rattle.image.specs.OneToOne.{WholeChip}
+use Rattle.image.proofs.Records.{record-written}
 use Rattle.image.proofs.writing.put_chip.Statement.{statement}
 use Rattle.image.proofs.writing.put_chip.Tie as tie
 
