@@ -1,4 +1,5 @@
 pub mod Lists
 pub mod OneToOne
+pub mod Parts
 pub mod Readback
 pub mod Records

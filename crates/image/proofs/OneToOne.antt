@@ -80,9 +80,9 @@ read-whole b long =
     record {
       eight-chips = chips-length 8 (drop 16 b);
       whole-chips =
-        λ i h.
-        subst WholeChip (sym (chips-at 8 (drop 16 b) i noChip h))
-        (whole-chip (drop (64 * i) (drop 16 b)) (omega (arith, h, long, length-drop (64 * i) (drop 16 b), length-drop 16 b)));
+          λ i h.
+          subst WholeChip (sym (chips-at 8 (drop 16 b) i noChip h))
+          (whole-chip (drop (64 * i) (drop 16 b)) (omega (arith, h, long, length-drop (64 * i) (drop 16 b), length-drop 16 b)));
     }
 
 pub one-to-one : OneToOne

@@ -88,4 +88,4 @@ chips-back [] whole = refl
 chips-back (c ∷ cs) whole =
     ap₂ (λ chip chips. chip ∷ chips) (chip-back c (records cs) (whole 0 (zero-lt-suc (length cs))))
     (ap (chipsIn (length cs)) (drop-at (chipRecord c) (records cs) 64 (record-length c (whole 0 (zero-lt-suc (length cs)))))
-      ∙ chips-back cs (λ i h. whole (suc i) (suc-le-suc h)))
+    ∙ chips-back cs (λ i h. whole (suc i) (suc-le-suc h)))

@@ -1,4 +1,5 @@
 // The chain image: a chain as 528 bytes that a caller owns and lends, as C can hold it. Reading it, writing it, and which bytes are one.
+mod places;
 pub mod reading;
 pub mod writing;
 

@@ -72,7 +72,7 @@ pub(crate) fn put_chip(r: &mut [u8], chip: Chip)
 }
 
 // A response's six bytes.
-fn response_bytes(response: Response) -> [u8; 6]
+pub(crate) fn response_bytes(response: Response) -> [u8; 6]
     ensures { λ r. ⌜ r ≡ responseBytes response ⌝ }
 {
     match response {
