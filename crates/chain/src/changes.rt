@@ -114,7 +114,7 @@ impl Chain {
 
 impl Response {
     // The response after a command to chip i: a reset of the responding chip ends it.
-    fn after_command(self, i: u8, code: u8) -> Response
+    pub fn after_command(self, i: u8, code: u8) -> Response
         ensures { λ r. ⌜ r ≡ afterCommand i code self ⌝ }
     {
         if Meaning::is_reset(code) & self.is_of(i) {

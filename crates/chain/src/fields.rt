@@ -13,7 +13,7 @@ use refusal::Refusal;
 
 impl Reply {
     // The response with one byte more delivered.
-    pub(crate) fn one_more(mut self) -> Reply
+    pub fn one_more(mut self) -> Reply
         requires { ⌜ self .delivered < 255 ⌝ }
         ensures { λ r. ⌜ r ≡ oneMore self ⌝ }
     {

@@ -7,7 +7,7 @@ use crate::Response;
 
 impl Response {
     // Whether no response is under way.
-    pub(crate) fn is_idle(self) -> bool
+    pub fn is_idle(self) -> bool
         ensures { λ r. ⌜ r ≡ isIdle self ⌝ }
     {
         match self {
@@ -17,7 +17,7 @@ impl Response {
     }
 
     // Whether chip i is responding.
-    pub(crate) fn is_of(self, i: u8) -> bool
+    pub fn is_of(self, i: u8) -> bool
         ensures { λ r. ⌜ r ≡ isResponding self i ⌝ }
     {
         match self {

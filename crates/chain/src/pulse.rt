@@ -20,21 +20,23 @@ use crate::Reply;
 use crate::Response;
 use chip::Chip;
 
-// The response of chip i for its candidate, before its first byte: level and length are held from here on.
-fn reply_of(i: u8, chip: Chip) -> Reply
-    requires { ⌜ chipSound chip ≡ true ⌝ }
-    ensures { λ r. ⌜ r ≡ replyOf i chip ⌝ }
-{
-    let candidate = chip.candidate();
-    let channel = candidate.channel();
-    let level = chip.response_level(channel);
-    let length = chip.byte_count(channel);
-    Reply {
-        chip: i,
-        channel: channel,
-        level: level,
-        length: length,
-        delivered: 0,
+impl Reply {
+    // The response of chip i for its candidate, before its first byte: level and length are held from here on.
+    pub fn of(i: u8, chip: Chip) -> Reply
+        requires { ⌜ chipSound chip ≡ true ⌝ }
+        ensures { λ r. ⌜ r ≡ replyOf i chip ⌝ }
+    {
+        let candidate = chip.candidate();
+        let channel = candidate.channel();
+        let level = chip.response_level(channel);
+        let length = chip.byte_count(channel);
+        Reply {
+            chip: i,
+            channel: channel,
+            level: level,
+            length: length,
+            delivered: 0,
+        }
     }
 }
 
@@ -65,7 +67,7 @@ impl Chain {
         if i >= self.count {
             return Response::Idle;
         }
-        Response::UnderWay(reply_of(i, self.chip_at(i)))
+        Response::UnderWay(Reply::of(i, self.chip_at(i)))
     }
 
     // IACK falls, and it is accepted: with a response under way its chip drives the next byte; otherwise it is a first pulse.

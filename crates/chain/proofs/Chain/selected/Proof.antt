@@ -17,14 +17,14 @@ returns c = simp (← c .before .before .answering-chip .ensures, le-ltb _ _ (c 
 chip-at-requires : tie.Need-chip-at-requires
 chip-at-requires c κs = lt-of-lt-of-le (c .if1 .left) (count-le _ (c .before .before .before .pre))
 
-reply-of-requires : tie.Need-reply-of-requires
-reply-of-requires c κs = rw (c .chip-at .ensures) (chip-sound _ _ (c .before .before .before .before .pre) (c .before .if1 .left))
+of-requires : tie.Need-of-requires
+of-requires c κs = rw (c .chip-at .ensures) (chip-sound _ _ (c .before .before .before .before .pre) (c .before .if1 .left))
 
 returns-2 : tie.Need-returns-2
 unfolding selected
-returns-2 c = simp (← c .before .before .before .before .answering-chip .ensures, lt-ltb _ _ (c .before .before .if1 .left), c .reply-of .ensures, c .before .chip-at .ensures)
+returns-2 c = simp (← c .before .before .before .before .answering-chip .ensures, lt-ltb _ _ (c .before .before .if1 .left), c .of .ensures, c .before .chip-at .ensures)
 
 pub selected-spec : {M : Type 1} → statement M
 selected-spec =
     tie.close
-    (tie.spec answering-chip-requires returns chip-at-requires reply-of-requires returns-2)
+    (tie.spec answering-chip-requires returns chip-at-requires of-requires returns-2)

@@ -1,9 +1,9 @@
--- `chain::pulse::reply_of` meets its contract.
+-- `chain::Reply::of` meets its contract.
 -- Assumes nothing.
 use borrow.Author.Needs.{needs}
 use Rattle.search.proofs.Order.{candidate-lt}
-use Rattle.chain.proofs.pulse.reply_of.Statement.{statement}
-use Rattle.chain.proofs.pulse.reply_of.Tie as tie
+use Rattle.chain.proofs.Reply.of.Statement.{statement}
+use Rattle.chain.proofs.Reply.of.Tie as tie
 
 candidate-requires : tie.Need-candidate-requires
 candidate-requires c κs = search needs
@@ -20,8 +20,8 @@ byte-count-requires c κs = (c .before .before .before .pre, rw (c .before .chan
 returns : tie.Need-returns
 returns c = simp (c .byte-count .ensures, c .before .response-level .ensures, c .before .before .channel .ensures, c .before .before .before .candidate .ensures)
 
-pub reply-of-spec : {M : Type 1} → statement M
-reply-of-spec =
+pub of-spec : {M : Type 1} → statement M
+of-spec =
     tie.close
     (tie.spec
     candidate-requires
