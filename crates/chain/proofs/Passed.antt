@@ -1,13 +1,13 @@
 -- What an accepted event has passed: the chain is sound, a chip that it names is below the count, and its own tests.
 -- Assumes nothing.
 use mathlib.Core.Bool.{Bool, true, false, not}
-use mathlib.Core.List.{List, [], _∷_}
+use mathlib.Core.List.{List, [], _∷_, _++_}
 use mathlib.Core.Path.{_≡_, refl, ap, sym, _∙_}
 use Prim.Native.Nat.{ℕ, _<_}
 use native.Mathlib.Nat.{lt-of-lt-of-le}
 use lib.Dec.{leb, ltb}
 use borrow.Author.Tests.{leb-false, lt-ltb, ltb-true, not-false}
-use Rattle.refusal.proofs.Numbers.{passed-first, passed-rest, refused-already, accepted-so-far}
+use Rattle.refusal.proofs.Numbers.{passed-first, passed-rest, accepted-is, refused-already, accepted-so-far}
 use Rattle.refusal.specs.Numbers.{isAccepted, firstOf}
 use Rattle.refusal.specs.declared.Refusal.{Refusal}
 use Rattle.refusal.specs.declared.Refusal.the-variants.{NotSound, NoSuchChip, PulseUnderWay, IackThereAlready, UndefinedCommand, NoDestination, PastItsCount}
@@ -17,7 +17,7 @@ use Rattle.chip.specs.Data.{isPastItsCount}
 use Rattle.chip.specs.Figure4.{figure4, undefined}
 use Rattle.chip.specs.Sound.{chipSound}
 use Rattle.chain.specs.Fields.{chipAt}
-use Rattle.chain.specs.Refusals.{checks, notSound, noSuchChip, noSuchChannel, noSuchLevel, pulseUnderWay, undefinedCommand, noDestination, pastItsCount, verdictOf}
+use Rattle.chain.specs.Refusals.{checks, notBelow, noSuchChip, noSuchChannel, noSuchLevel, whileLow, pulseUnderWay, undefinedCommand, noDestination, pastItsCount, verdictOf}
 use Rattle.chain.specs.Sound.{sound}
 use Rattle.chain.specs.Views.{viewVerdict}
 use Rattle.chain.specs.declared.Chain.{Chain}
@@ -28,6 +28,11 @@ use Rattle.chain.proofs.Soundness.{count-le, chip-sound}
 pub passed-sound : (e : Event) (s : Chain) → verdictOf e s ≡ Accepted → sound s ≡ true
 unfolding verdictOf
 passed-sound e s v = not-false (sound s) (passed-first (not (sound s)) NotSound (checks e s) v)
+
+-- on a sound chain the tests after refusal 1 decide
+pub sound-verdict : (e : Event) (s : Chain) → sound s ≡ true → verdictOf e s ≡ firstOf (checks e s)
+unfolding verdictOf
+sound-verdict e s h = simp h
 
 passed-checks : (e : Event) (s : Chain) → verdictOf e s ≡ Accepted → firstOf (checks e s) ≡ Accepted
 unfolding verdictOf
@@ -92,15 +97,17 @@ passed-view i s v =
     in-eight s i (not-false (sound s) (passed-first (not (sound s)) NotSound (noSuchChip i s ∷ []) v))
     (below i (s .count) (passed-first (leb (s .count) i) NoSuchChip [] (passed-rest (not (sound s)) NotSound (noSuchChip i s ∷ []) v)))
 
--- the tests of a bus access come first: where they refuse, that is the verdict; where they accept, the rest decides
-pub refused-on-the-bus : (i : ℕ) (s : Chain) (rest : List (Bool × Refusal)) (bus : Verdict) (ok : Bool) → bus ≡ verdictOf (Status i) s → ok ≡ isAccepted bus → ok ≡ false
-    → firstOf (notSound s ∷ noSuchChip i s ∷ pulseUnderWay s ∷ rest) ≡ bus
-unfolding verdictOf
-refused-on-the-bus i s rest bus ok is told e =
-    refused-already (notSound s ∷ noSuchChip i s ∷ pulseUnderWay s ∷ []) rest (ap isAccepted (sym is) ∙ sym told ∙ e) ∙ sym is
+-- tests in two parts: where the first part refuses, that is the verdict; where it accepts, the rest decides
+pub refused-at-first : (first rest : List (Bool × Refusal)) (v : Verdict) (ok : Bool) → v ≡ firstOf first → ok ≡ isAccepted v → ok ≡ false
+    → v ≡ firstOf (first ++ rest)
+refused-at-first first rest v ok is told e = is ∙ sym (refused-already first rest (ap isAccepted (sym is) ∙ sym told ∙ e))
 
-pub left-to-the-rest : (i : ℕ) (s : Chain) (rest : List (Bool × Refusal)) (bus : Verdict) (ok : Bool) → bus ≡ verdictOf (Status i) s → ok ≡ isAccepted bus → ok ≡ true
-    → firstOf (notSound s ∷ noSuchChip i s ∷ pulseUnderWay s ∷ rest) ≡ firstOf rest
-unfolding verdictOf
-left-to-the-rest i s rest bus ok is told e =
-    accepted-so-far (notSound s ∷ noSuchChip i s ∷ pulseUnderWay s ∷ []) rest (ap isAccepted (sym is) ∙ sym told ∙ e)
+pub left-to-the-rest : (first rest : List (Bool × Refusal)) (v : Verdict) (ok : Bool) → v ≡ firstOf first → ok ≡ isAccepted v → ok ≡ true
+    → firstOf (first ++ rest) ≡ firstOf rest
+left-to-the-rest first rest v ok is told e = accepted-so-far first rest (ap isAccepted (sym is) ∙ sym told ∙ e)
+
+-- what the bus accepts names a chip below the count
+pub bus-names : (count i : ℕ) (iack : Bool) (bus : Verdict) (ok : Bool) → bus ≡ firstOf (notBelow count i ∷ whileLow iack ∷ []) → ok ≡ isAccepted bus → ok ≡ true
+    → ltb i count ≡ true
+bus-names count i iack bus ok is told e =
+    below i count (passed-first (leb count i) NoSuchChip (whileLow iack ∷ []) (accepted-is _ (ap isAccepted (sym is) ∙ sym told ∙ e)))

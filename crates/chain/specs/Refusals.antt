@@ -1,10 +1,12 @@
 -- When an event is refused (document 01, "Numbers handed back"): each test of the table with its refusal, and which of them each event takes.
+-- A test of a chain is a test of that part of it that the test looks at, and the part's test has a name of its own.
 use mathlib.Core.Bool.{Bool, not}
 use mathlib.Core.List.{List, [], _∷_}
 use Prim.Native.Nat.{ℕ}
 use lib.Dec.{leb, ltb}
 use Rattle.chip.specs.Data.{hasNoDestination, isPastItsCount}
 use Rattle.chip.specs.Figure4.{figure4, undefined}
+use Rattle.chip.specs.declared.Chip.{Chip}
 use Rattle.refusal.specs.Numbers.{firstOf}
 use Rattle.refusal.specs.declared.Refusal.{Refusal}
 use Rattle.refusal.specs.declared.Refusal.the-variants.{NotSound, NoSuchChip, NoSuchChannel, NoSuchLevel, PulseUnderWay, IackThereAlready, UndefinedCommand, NoDestination, PastItsCount}
@@ -20,8 +22,11 @@ abbrev pub notSound : Chain → Bool × Refusal
 notSound s = (not (sound s), NotSound)
 
 -- 2: chip not below the count
+abbrev pub notBelow : ℕ → ℕ → Bool × Refusal
+notBelow count i = (leb count i, NoSuchChip)
+
 abbrev pub noSuchChip : ℕ → Chain → Bool × Refusal
-noSuchChip i s = (leb (s .count) i, NoSuchChip)
+noSuchChip i s = notBelow (s .count) i
 
 -- 3: line event, channel above 7
 abbrev pub noSuchChannel : ℕ → Bool × Refusal
@@ -32,27 +37,42 @@ abbrev pub noSuchLevel : ℕ → Bool × Refusal
 noSuchLevel level = (ltb 1 level, NoSuchLevel)
 
 -- 5: events 1 to 4 while IACK is low
+abbrev pub whileLow : Bool → Bool × Refusal
+whileLow iack = (not iack, PulseUnderWay)
+
 abbrev pub pulseUnderWay : Chain → Bool × Refusal
-pulseUnderWay s = (not (s .iack), PulseUnderWay)
+pulseUnderWay s = whileLow (s .iack)
 
 -- 6: IACK already at that level
+abbrev pub lowAlready : Bool → Bool × Refusal
+lowAlready iack = (not iack, IackThereAlready)
+
 abbrev pub iackLow : Chain → Bool × Refusal
-iackLow s = (not (s .iack), IackThereAlready)
+iackLow s = lowAlready (s .iack)
+
+abbrev pub highAlready : Bool → Bool × Refusal
+highAlready iack = (iack, IackThereAlready)
 
 abbrev pub iackHigh : Chain → Bool × Refusal
-iackHigh s = (s .iack, IackThereAlready)
+iackHigh s = highAlready (s .iack)
 
 -- 7: undefined command
 abbrev pub undefinedCommand : ℕ → Bool × Refusal
 undefinedCommand code = (undefined (figure4 code), UndefinedCommand)
 
 -- 8: data write, no destination
+abbrev pub nowhereToGo : Chip → Bool × Refusal
+nowhereToGo c = (hasNoDestination (c .destination), NoDestination)
+
 abbrev pub noDestination : ℕ → Chain → Bool × Refusal
-noDestination i s = (hasNoDestination (chipAt s i .destination), NoDestination)
+noDestination i s = nowhereToGo (chipAt s i)
 
 -- 9: data write to a level, place at or past its count
+abbrev pub placePast : Chip → Bool × Refusal
+placePast c = (isPastItsCount (c .counts) (c .destination), PastItsCount)
+
 abbrev pub pastItsCount : ℕ → Chain → Bool × Refusal
-pastItsCount i s = (isPastItsCount (chipAt s i .counts) (chipAt s i .destination), PastItsCount)
+pastItsCount i s = placePast (chipAt s i)
 
 -- the tests that an event on a sound chain has to pass, in the paper's order
 abbrev pub checks : Event → Chain → List (Bool × Refusal)

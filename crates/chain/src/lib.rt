@@ -1,13 +1,14 @@
 // One to eight chained Am9519A chips: the chain's record, the eight events, and the two views of one state.
 // The records stand here. The public calls are in start.rt, calls.rt (the eight events), views.rt, sound.rt and answers.rt (an answer's numbers); they
 // take every input. What stands behind them asks for what they have checked: a sound chain, an event that no refusal meets, an index in range.
+// refusals.rt has the tests of the table, public too, over what they look at: for whoever holds a chain in another form than the record.
 mod answers;
 mod calls;
 mod changes;
 mod fields;
 mod levels;
 mod pulse;
-mod refusals;
+pub mod refusals;
 mod sound;
 mod start;
 mod views;

@@ -1,14 +1,115 @@
-// When an event on a sound chain is refused: the tests of the table, in its order.
+// When an event on a sound chain is refused: the tests of the table, in its order. Each verdict is over what its tests look at, so whoever holds the
+// chain in another form has the same tests.
 ghost use mathlib.Core.Bool.{true};
+ghost use mathlib.Core.List.{[], _∷_};
 ghost use mathlib.Core.Path.{_≡_};
-ghost use Rattle.chain.specs.Refusals.{verdictOf};
+ghost use Rattle.chip.specs.Sound.{chipSound};
+ghost use Rattle.refusal.specs.Numbers.{firstOf};
+ghost use Rattle.chain.specs.Refusals.{notBelow, noSuchChannel, noSuchLevel, whileLow, lowAlready, highAlready, undefinedCommand, nowhereToGo, placePast, verdictOf};
 ghost use Rattle.chain.specs.Sound.{sound};
-ghost use Rattle.chain.specs.declared.Event.the-variants.{Command, Data, Status, Line, Enable, Fall, Rise};
+ghost use Rattle.chain.specs.declared.Event.the-variants.{Data};
 use crate::Chain;
 use crate::Event;
+use chip::Chip;
 use chip::Meaning;
 use refusal::Refusal;
 use refusal::Verdict;
+
+// Whatever names a chip: chip not below the count.
+pub fn chip_verdict(count: u8, i: u8) -> Verdict
+    ensures { λ r. ⌜ r ≡ firstOf (notBelow count i ∷ []) ⌝ }
+{
+    if i >= count {
+        return Verdict::Refused(Refusal::NoSuchChip);
+    }
+    Verdict::Accepted
+}
+
+// Every access on the bus, and the whole verdict on a read: chip not below the count; IACK low.
+pub fn bus_verdict(count: u8, iack: bool, i: u8) -> Verdict
+    ensures { λ r. ⌜ r ≡ firstOf (notBelow count i ∷ whileLow iack ∷ []) ⌝ }
+{
+    let named = chip_verdict(count, i);
+    if !named.is_accepted() {
+        return named;
+    }
+    if !iack {
+        return Verdict::Refused(Refusal::PulseUnderWay);
+    }
+    Verdict::Accepted
+}
+
+// A command write.
+pub fn command_verdict(count: u8, iack: bool, i: u8, code: u8) -> Verdict
+    ensures { λ r. ⌜ r ≡ firstOf (notBelow count i ∷ whileLow iack ∷ undefinedCommand code ∷ []) ⌝ }
+{
+    let bus = bus_verdict(count, iack, i);
+    if !bus.is_accepted() {
+        return bus;
+    }
+    if Meaning::of(code).is_undefined() {
+        return Verdict::Refused(Refusal::UndefinedCommand);
+    }
+    Verdict::Accepted
+}
+
+// A data write that the bus accepts, by the chip that it goes to: no destination; place at or past its count.
+pub fn write_verdict(chip: Chip) -> Verdict
+    requires { ⌜ chipSound chip ≡ true ⌝ }
+    ensures { λ r. ⌜ r ≡ firstOf (nowhereToGo chip ∷ placePast chip ∷ []) ⌝ }
+{
+    if chip.has_no_destination() {
+        return Verdict::Refused(Refusal::NoDestination);
+    }
+    if chip.is_past_its_count() {
+        return Verdict::Refused(Refusal::PastItsCount);
+    }
+    Verdict::Accepted
+}
+
+// A line takes a level.
+pub fn line_verdict(count: u8, i: u8, channel: u8, level: u8) -> Verdict
+    ensures { λ r. ⌜ r ≡ firstOf (notBelow count i ∷ noSuchChannel channel ∷ noSuchLevel level ∷ []) ⌝ }
+{
+    let named = chip_verdict(count, i);
+    if !named.is_accepted() {
+        return named;
+    }
+    if channel > 7 {
+        return Verdict::Refused(Refusal::NoSuchChannel);
+    }
+    level_verdict(level)
+}
+
+// The whole verdict on Enable In, and the last test of a line: level above 1.
+pub fn level_verdict(level: u8) -> Verdict
+    ensures { λ r. ⌜ r ≡ firstOf (noSuchLevel level ∷ []) ⌝ }
+{
+    if level > 1 {
+        return Verdict::Refused(Refusal::NoSuchLevel);
+    }
+    Verdict::Accepted
+}
+
+// IACK falls: it is low already.
+pub fn fall_verdict(iack: bool) -> Verdict
+    ensures { λ r. ⌜ r ≡ firstOf (lowAlready iack ∷ []) ⌝ }
+{
+    if !iack {
+        return Verdict::Refused(Refusal::IackThereAlready);
+    }
+    Verdict::Accepted
+}
+
+// IACK rises: it is high already.
+pub fn rise_verdict(iack: bool) -> Verdict
+    ensures { λ r. ⌜ r ≡ firstOf (highAlready iack ∷ []) ⌝ }
+{
+    if iack {
+        return Verdict::Refused(Refusal::IackThereAlready);
+    }
+    Verdict::Accepted
+}
 
 impl Chain {
     // The verdict on an event.
@@ -17,106 +118,26 @@ impl Chain {
         ensures { λ r. ⌜ r ≡ verdictOf e self ⌝ }
     {
         match e {
-            Event::Command(i, code) => self.command_verdict(i, code),
+            Event::Command(i, code) => command_verdict(self.count, self.iack, i, code),
             Event::Data(i, byte) => self.data_verdict(i, byte),
-            Event::Status(i) => self.bus_verdict(i),
-            Event::Read(i) => self.bus_verdict(i),
-            Event::Line(i, channel, level) => self.line_verdict(i, channel, level),
-            Event::Enable(level) => self.enable_verdict(level),
-            Event::Fall => self.fall_verdict(),
-            Event::Rise => self.rise_verdict(),
+            Event::Status(i) => bus_verdict(self.count, self.iack, i),
+            Event::Read(i) => bus_verdict(self.count, self.iack, i),
+            Event::Line(i, channel, level) => line_verdict(self.count, i, channel, level),
+            Event::Enable(level) => level_verdict(level),
+            Event::Fall => fall_verdict(self.iack),
+            Event::Rise => rise_verdict(self.iack),
         }
     }
 
-    // Every access on the bus, and the whole verdict on a read: chip not below the count; IACK low.
-    fn bus_verdict(self, i: u8) -> Verdict
-        requires { ⌜ sound self ≡ true ⌝ }
-        ensures { λ r. ⌜ r ≡ verdictOf (Status i) self ⌝ }
-    {
-        if i >= self.count {
-            return Verdict::Refused(Refusal::NoSuchChip);
-        }
-        if !self.iack {
-            return Verdict::Refused(Refusal::PulseUnderWay);
-        }
-        Verdict::Accepted
-    }
-
-    fn command_verdict(self, i: u8, code: u8) -> Verdict
-        requires { ⌜ sound self ≡ true ⌝ }
-        ensures { λ r. ⌜ r ≡ verdictOf (Command i code) self ⌝ }
-    {
-        let bus = self.bus_verdict(i);
-        if !bus.is_accepted() {
-            return bus;
-        }
-        if Meaning::of(code).is_undefined() {
-            return Verdict::Refused(Refusal::UndefinedCommand);
-        }
-        Verdict::Accepted
-    }
-
+    // The bus first: only a chip below the count is looked at.
     fn data_verdict(self, i: u8, byte: u8) -> Verdict
         requires { ⌜ sound self ≡ true ⌝ }
         ensures { λ r. ⌜ r ≡ verdictOf (Data i byte) self ⌝ }
     {
-        let bus = self.bus_verdict(i);
+        let bus = bus_verdict(self.count, self.iack, i);
         if !bus.is_accepted() {
             return bus;
         }
-        let chip = self.chip_at(i);
-        if chip.has_no_destination() {
-            return Verdict::Refused(Refusal::NoDestination);
-        }
-        if chip.is_past_its_count() {
-            return Verdict::Refused(Refusal::PastItsCount);
-        }
-        Verdict::Accepted
-    }
-
-    fn line_verdict(self, i: u8, channel: u8, level: u8) -> Verdict
-        requires { ⌜ sound self ≡ true ⌝ }
-        ensures { λ r. ⌜ r ≡ verdictOf (Line i channel level) self ⌝ }
-    {
-        if i >= self.count {
-            return Verdict::Refused(Refusal::NoSuchChip);
-        }
-        if channel > 7 {
-            return Verdict::Refused(Refusal::NoSuchChannel);
-        }
-        if level > 1 {
-            return Verdict::Refused(Refusal::NoSuchLevel);
-        }
-        Verdict::Accepted
-    }
-
-    fn enable_verdict(self, level: u8) -> Verdict
-        requires { ⌜ sound self ≡ true ⌝ }
-        ensures { λ r. ⌜ r ≡ verdictOf (Enable level) self ⌝ }
-    {
-        if level > 1 {
-            return Verdict::Refused(Refusal::NoSuchLevel);
-        }
-        Verdict::Accepted
-    }
-
-    fn fall_verdict(self) -> Verdict
-        requires { ⌜ sound self ≡ true ⌝ }
-        ensures { λ r. ⌜ r ≡ verdictOf Fall self ⌝ }
-    {
-        if !self.iack {
-            return Verdict::Refused(Refusal::IackThereAlready);
-        }
-        Verdict::Accepted
-    }
-
-    fn rise_verdict(self) -> Verdict
-        requires { ⌜ sound self ≡ true ⌝ }
-        ensures { λ r. ⌜ r ≡ verdictOf Rise self ⌝ }
-    {
-        if self.iack {
-            return Verdict::Refused(Refusal::IackThereAlready);
-        }
-        Verdict::Accepted
+        write_verdict(self.chip_at(i))
     }
 }

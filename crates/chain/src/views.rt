@@ -7,6 +7,7 @@ use crate::PinView;
 use crate::Pins;
 use crate::RegisterView;
 use crate::Registers;
+use crate::refusals::chip_verdict;
 use refusal::Refusal;
 use refusal::Verdict;
 
@@ -40,10 +41,7 @@ impl Chain {
         if !self.is_sound() {
             return Verdict::Refused(Refusal::NotSound);
         }
-        if i >= self.count {
-            return Verdict::Refused(Refusal::NoSuchChip);
-        }
-        Verdict::Accepted
+        chip_verdict(self.count, i)
     }
 
     // The table of chip i.

@@ -1,5 +1,5 @@
 // The chain image: a chain as 528 bytes that a caller owns and lends, as C can hold it. Reading it, writing it, and which bytes are one.
-mod events;
+pub mod events;
 mod pins;
 mod places;
 mod pulse;

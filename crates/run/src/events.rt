@@ -74,7 +74,7 @@ fn step(chain: Chain, listed: Listed) -> Outcome
 }
 
 // The n-th accepted event's two bytes: 1 and the byte driven or read, or 0 and 0.
-fn note(results: &mut [u8], n: usize, answer: Answer)
+pub(crate) fn note(results: &mut [u8], n: usize, answer: Answer)
     requires { ⌜ 2 * n + 2 ≤ lengthOf (now results) ⌝ }
     ensures { λ _. ⌜ now (results .exit) ≡ noted n (handed answer) (now (results .entry)) ⌝ }
 {

@@ -1,6 +1,7 @@
 // Runs: lists of events as lent bytes, applied to one chain up to a limit, the end or the first refusal.
 // The records and the public calls, `run` and what a run takes before any event, stand here. What stands behind it asks for what it has checked.
 mod events;
+pub mod in_place;
 mod list;
 
 ghost use mathlib.Core.Bool.{not};

@@ -38,8 +38,8 @@ line-verdict-requires c κs = search needs
 enum-known-e-6 : tie.Need-enum-known-e-6
 enum-known-e-6 c = search needs
 
-enable-verdict-requires : tie.Need-enable-verdict-requires
-enable-verdict-requires c κs = search needs
+level-verdict-requires : tie.Need-level-verdict-requires
+level-verdict-requires c κs = search needs
 
 enum-told : tie.Need-enum-told
 enum-told c = search needs
@@ -54,29 +54,35 @@ rise-verdict-requires : tie.Need-rise-verdict-requires
 rise-verdict-requires c κs = search needs
 
 returns : tie.Need-returns
-returns c = simp (c .command-verdict .ensures, c .before .before .e .given .1)
+unfolding verdictOf
+returns c = simp (c .command-verdict .ensures, c .before .before .e .given .1, c .before .before .before .before .pre)
 
 returns-2 : tie.Need-returns-2
 returns-2 c = simp (c .data-verdict .ensures, c .before .before .e2 .given .1)
 
 returns-3 : tie.Need-returns-3
-returns-3 c = simp (c .bus-verdict .ensures, c .before .before .e3 .given .1)
+unfolding verdictOf
+returns-3 c = simp (c .bus-verdict .ensures, c .before .before .e3 .given .1, c .before .before .before .before .pre)
 
 returns-4 : tie.Need-returns-4
 unfolding verdictOf
-returns-4 c = simp (c .bus-verdict2 .ensures, c .before .before .e4 .given .1)
+returns-4 c = simp (c .bus-verdict2 .ensures, c .before .before .e4 .given .1, c .before .before .before .before .pre)
 
 returns-5 : tie.Need-returns-5
-returns-5 c = simp (c .line-verdict .ensures, c .before .before .e5 .given .1)
+unfolding verdictOf
+returns-5 c = simp (c .line-verdict .ensures, c .before .before .e5 .given .1, c .before .before .before .before .pre)
 
 returns-6 : tie.Need-returns-6
-returns-6 c = simp (c .enable-verdict .ensures, c .before .before .e6 .given .1)
+unfolding verdictOf
+returns-6 c = simp (c .level-verdict .ensures, c .before .before .e6 .given .1, c .before .before .before .before .pre)
 
 returns-7 : tie.Need-returns-7
-returns-7 c = simp (c .fall-verdict .ensures, c .before .enum-told .given .1)
+unfolding verdictOf
+returns-7 c = simp (c .fall-verdict .ensures, c .before .enum-told .given .1, c .before .before .before .pre)
 
 returns-8 : tie.Need-returns-8
-returns-8 c = simp (c .rise-verdict .ensures, c .before .enum-told2 .given .1)
+unfolding verdictOf
+returns-8 c = simp (c .rise-verdict .ensures, c .before .enum-told2 .given .1, c .before .before .before .pre)
 
 pub verdict-spec : {M : Type 1} → statement M
 verdict-spec =
@@ -93,7 +99,7 @@ verdict-spec =
     enum-known-e-5
     line-verdict-requires
     enum-known-e-6
-    enable-verdict-requires
+    level-verdict-requires
     enum-told
     fall-verdict-requires
     enum-told-2

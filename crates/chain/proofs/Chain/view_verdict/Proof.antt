@@ -1,7 +1,7 @@
 -- `chain::Chain::view_verdict` meets its contract.
 -- Assumes nothing.
 use borrow.Author.Needs.{needs}
-use borrow.Author.Tests.{le-leb, lt-leb, not-true, not-false}
+use borrow.Author.Tests.{not-true, not-false}
 use Rattle.chain.proofs.Chain.view_verdict.Statement.{statement}
 use Rattle.chain.proofs.Chain.view_verdict.Tie as tie
 
@@ -11,11 +11,11 @@ is-sound-requires c κs = search needs
 returns : tie.Need-returns
 returns c = simp (← c .before .is-sound .ensures, not-true (c .before .is-sound .result) (c .if1 .taken))
 
-returns-2 : tie.Need-returns-2
-returns-2 c = simp (← c .before .before .before .is-sound .ensures, not-false (c .before .before .before .is-sound .result) (c .before .before .if1 .left), le-leb _ _ (c .if2 .taken))
+chip-verdict-requires : tie.Need-chip-verdict-requires
+chip-verdict-requires c κs = search needs
 
-returns-3 : tie.Need-returns-3
-returns-3 c = simp (← c .before .before .before .is-sound .ensures, not-false (c .before .before .before .is-sound .result) (c .before .before .if1 .left), lt-leb _ _ (c .if2 .left))
+returns-2 : tie.Need-returns-2
+returns-2 c = simp (← c .before .before .is-sound .ensures, not-false (c .before .before .is-sound .result) (c .before .if1 .left), c .chip-verdict .ensures)
 
 pub view-verdict-spec : {M : Type 1} → statement M
-view-verdict-spec = tie.close (tie.spec is-sound-requires returns returns-2 returns-3)
+view-verdict-spec = tie.close (tie.spec is-sound-requires returns chip-verdict-requires returns-2)

@@ -1,0 +1,80 @@
+// A run on a chain's image where it lies: nothing but what an event changes is written. The C interface runs this way.
+ghost use mathlib.Core.Bool.{true};
+ghost use mathlib.Core.Path.{_≡_};
+ghost use Prim.Native.Nat.{_*_, _≤_, min};
+ghost use lib.ListN.{length};
+ghost use Rattle.chain.specs.Sound.{sound};
+ghost use Rattle.image.specs.Reading.{chainIn, isImage};
+ghost use Rattle.refusal.specs.Numbers.{isAccepted};
+ghost use Rattle.run.specs.Run.{stepOf, beforeAny, runFrom, runOf};
+use crate::Listed;
+use crate::events::least;
+use crate::events::note;
+use chain::Answer;
+use image::events::on;
+use refusal::Refusal;
+use refusal::Verdict;
+
+// What a run over an image reports; the chain is in the image.
+pub struct Reached {
+    pub verdict: Verdict,
+    pub accepted: usize,
+}
+
+// A listed event: 12, kind outside 1 to 8, before the event's own refusals.
+fn step_in(image: &mut [u8], listed: Listed) -> Answer
+    requires { ⌜ isImage (now image) ≡ true ⌝ }
+    requires { ⌜ sound (chainIn (now image)) ≡ true ⌝ }
+    ensures { λ r. ⌜ r ≡ stepOf listed (chainIn (now (image .entry))) .answer ⌝ }
+    ensures { λ _. ⌜ isImage (now (image .exit)) ≡ true ⌝ }
+    ensures { λ _. ⌜ chainIn (now (image .exit)) ≡ stepOf listed (chainIn (now (image .entry))) .chain ⌝ }
+{
+    match listed {
+        Listed::Known(e) => on(image, e),
+        Listed::Unknown => Answer::Refused(Refusal::UnknownKind),
+    }
+}
+
+// The first so many events of the list.
+fn perform_in(image: &mut [u8], bytes: &[u8], count: usize, results: &mut [u8]) -> Reached
+    requires { ⌜ isImage (now image) ≡ true ⌝ }
+    requires { ⌜ sound (chainIn (now image)) ≡ true ⌝ }
+    requires { ⌜ 4 * count ≤ length (now bytes) ⌝ }
+    requires { ⌜ 2 * count ≤ length (now results) ⌝ }
+    ensures { λ r. ⌜ r .verdict ≡ runFrom count (now (bytes .entry)) 0 (chainIn (now (image .entry))) (now (results .entry)) .ran .verdict ⌝ }
+    ensures { λ r. ⌜ r .accepted ≡ runFrom count (now (bytes .entry)) 0 (chainIn (now (image .entry))) (now (results .entry)) .ran .accepted ⌝ }
+    ensures { λ _. ⌜ isImage (now (image .exit)) ≡ true ⌝ }
+    ensures { λ _. ⌜ chainIn (now (image .exit)) ≡ runFrom count (now (bytes .entry)) 0 (chainIn (now (image .entry))) (now (results .entry)) .ran .chain ⌝ }
+    ensures { λ _. ⌜ now (results .exit) ≡ runFrom count (now (bytes .entry)) 0 (chainIn (now (image .entry))) (now (results .entry)) .results ⌝ }
+{
+    let mut n = 0;
+    while n < count {
+        let answer = step_in(image, Listed::at(bytes, n));
+        let verdict = answer.verdict();
+        if !verdict.is_accepted() {
+            return Reached {
+                verdict: verdict,
+                accepted: n,
+            };
+        }
+        note(results, n, answer);
+        n += 1;
+    }
+    Reached {
+        verdict: Verdict::Accepted,
+        accepted: count,
+    }
+}
+
+// A run over an image, for what nothing refuses before any event.
+pub fn run_in(image: &mut [u8], bytes: &[u8], limit: usize, results: &mut [u8]) -> Reached
+    requires { ⌜ isImage (now image) ≡ true ⌝ }
+    requires { ⌜ isAccepted (beforeAny (chainIn (now image)) (now bytes) (now results)) ≡ true ⌝ }
+    ensures { λ r. ⌜ r .verdict ≡ runOf (chainIn (now (image .entry))) (now (bytes .entry)) limit (now (results .entry)) .ran .verdict ⌝ }
+    ensures { λ r. ⌜ r .accepted ≡ runOf (chainIn (now (image .entry))) (now (bytes .entry)) limit (now (results .entry)) .ran .accepted ⌝ }
+    ensures { λ _. ⌜ isImage (now (image .exit)) ≡ true ⌝ }
+    ensures { λ _. ⌜ chainIn (now (image .exit)) ≡ runOf (chainIn (now (image .entry))) (now (bytes .entry)) limit (now (results .entry)) .ran .chain ⌝ }
+    ensures { λ _. ⌜ now (results .exit) ≡ runOf (chainIn (now (image .entry))) (now (bytes .entry)) limit (now (results .entry)) .results ⌝ }
+{
+    perform_in(image, bytes, least(limit, bytes.len() / 4), results)
+}
