@@ -13,6 +13,7 @@ use chain::PinView;
 use chain::RegisterView;
 use image::reading::chain_in;
 use image::writing::put_chain;
+use run::in_place::run_in;
 
 // The candidate search over register numbers: the channel, 255 for no candidate, or 254 if the pointer is above 7.
 #[no_mangle]
@@ -61,15 +62,13 @@ pub extern "C" fn am9519a_run(
     if !image::is_image(image) {
         return 1;
     }
-    let chain = chain_in(image);
-    let verdict = run::before_any(chain, events.len(), results.len());
+    let verdict = run::before_any(chain_in(image), events.len(), results.len());
     if !verdict.is_accepted() {
         return verdict.number();
     }
-    let ran = run::run(chain, events, limit, results);
-    put_chain(image, ran.chain);
-    *accepted = ran.accepted;
-    let last = ran.verdict;
+    let reached = run_in(image, events, limit, results);
+    *accepted = reached.accepted;
+    let last = reached.verdict;
     last.number()
 }
 
