@@ -28,7 +28,7 @@ pin-read mode false true is = rw is refl
 pin-read mode false false is = rw is refl
 
 -- of any chain and any of its chips
-one-state : (s : Chain) (chip : ℕ) → Agree (tableOf chip s) (pictureOf chip s)
+pub one-state : (s : Chain) (chip : ℕ) → Agree (tableOf chip s) (pictureOf chip s)
 one-state s chip =
     let c : Chip = chipAt s chip in
     let bits : StatusBits c (ei s chip) = by-the-rules .status-bits c (ei s chip) in

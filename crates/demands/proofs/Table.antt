@@ -40,11 +40,11 @@ use Rattle.demands.specs.Table.{Entry, given, numbered, inNumbers, event
 use Rattle.demands.proofs.Kept.{answers-zero}
 
 -- tests, each with its refusal, as entries of the table
-abbrev entries : List (Bool × Refusal) → List Entry
+abbrev pub entries : List (Bool × Refusal) → List Entry
 entries [] = []
 entries (check ∷ checks) = (refusalNumber (check .1), check .0) ∷ entries checks
 
-first-given : (l : List (Bool × Refusal)) → verdictNumber (firstOf l) ≡ given (entries l)
+pub first-given : (l : List (Bool × Refusal)) → verdictNumber (firstOf l) ≡ given (entries l)
 first-given [] = refl
 first-given ((true, why) ∷ l) = refl
 first-given ((false, why) ∷ l) = first-given l

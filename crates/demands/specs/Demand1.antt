@@ -1,4 +1,5 @@
 -- The first demand: no input of a call is without its defined result, what is wrong gets its number, and a refusal changes nothing.
+use Rattle.demands.specs.FromC.{FromC}
 use Rattle.demands.specs.Outcomes.{OneOutcome}
 use Rattle.demands.specs.Table.{ByTheTable}
 use Rattle.demands.specs.Unchanged.{Unchanged}
@@ -10,3 +11,5 @@ pub record Demand1 : Type 0 where
   pub by-the-table : ByTheTable
   -- a refusal leaves the chain and every lent byte as they were; of a run that is refused at an event, what it accepted before stays
   pub unchanged : Unchanged
+  -- the calls from C go by the same table, and a refused one leaves every lent buffer as it was; of a run that holds where no event is what it refuses
+  pub from-c : FromC

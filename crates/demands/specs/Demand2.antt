@@ -1,7 +1,9 @@
 -- The second demand: one to eight chips behave by the rules, event by event, and what the two views show of a state cannot differ.
+use Rattle.image.specs.OneToOne.{OneToOne}
 use Rattle.demands.specs.Agree.{Agreement}
 use Rattle.demands.specs.Cases.{cases, Hold}
 use Rattle.demands.specs.Corners.{corners}
+use Rattle.demands.specs.FromC.{AsTheModel}
 use Rattle.demands.specs.Kept.{Kept}
 use Rattle.demands.specs.Misread.{misreadings}
 use Rattle.demands.specs.Rules.{ByTheRules}
@@ -20,3 +22,7 @@ pub record Demand2 : Type 0 where
   pub runs : Runs
   -- the picture and the table of a state agree, whatever the state
   pub agreement : Agreement
+  -- a chain and its image are one to one
+  pub one-to-one : OneToOne
+  -- a call from C is the model's own between reading the image and writing it, and the bytes of the two views of an image agree
+  pub as-the-model : AsTheModel

@@ -6,6 +6,7 @@ pub mod Corners
 pub mod Demand1
 pub mod Demand2
 pub mod Demand3
+pub mod FromC
 pub mod Kept
 pub mod Misread
 pub mod Outcomes

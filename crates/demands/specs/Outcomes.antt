@@ -45,6 +45,11 @@ use Rattle.chain.specs.declared.Event.the-variants.{Command, Data, Status, Read
 use Rattle.run.proofs.run.Reads as run-run
 use Rattle.run.specs.Run.{Report, runOf}
 use Rattle.am9519a.proofs.am9519a_candidate.Reads as am9519a-candidate
+use Rattle.am9519a.proofs.am9519a_pins.Reads as am9519a-pins
+use Rattle.am9519a.proofs.am9519a_registers.Reads as am9519a-registers
+use Rattle.am9519a.proofs.am9519a_run.Reads as am9519a-run
+use Rattle.am9519a.proofs.am9519a_start.Reads as am9519a-start
+use Rattle.am9519a.specs.Calls.{Called, RunCalled, startCall, runCall, registersCall, pinsCall}
 
 -- arguments that a call takes, a promise that the given outcome satisfies and no two do
 pub record Only {A : Type 0} (asked : Type 0) (promise : A → Type 0) (given : A) : Type 0 where
@@ -89,3 +94,21 @@ pub record OneOutcome : Type 0 where
   -- the search for a caller in C
   pub candidate : (irr imr isr mode pointer : ℕ)
       → Determined (am9519a-candidate.Asked tt) (am9519a-candidate.Post tt) (irr, (imr, (isr, (mode, (pointer, tt))))) (searchNumber irr imr isr mode pointer)
+  -- the calls from C over an image of a chain: the number, and every byte of each buffer that is lent to be written; of a run the accepted count too
+  pub start-call : (lent : Lfts 1) (count fill : ℕ) (image : RefT (List ℕ))
+      → Only (am9519a-start.Asked lent (count, (fill, (image, tt))))
+      (λ (c : Called). am9519a-start.Post lent (count, (fill, (image, tt))) (c .number) (count, (fill, (at-last image (c .buffer), tt))))
+      (startCall count fill (image .now))
+  pub run-call : (lent : Lfts 4) (image events : RefT (List ℕ)) (limit : ℕ) (results : RefT (List ℕ)) (accepted : RefT ℕ)
+      → Only (am9519a-run.Asked lent (image, (events, (limit, (results, (accepted, tt))))))
+      (λ (c : RunCalled). am9519a-run.Post lent (image, (events, (limit, (results, (accepted, tt))))) (c .number)
+      (at-last image (c .image), (events, (limit, (at-last results (c .results), (at-last accepted (c .accepted), tt))))))
+      (runCall (image .now) (events .now) limit (results .now) (accepted .now))
+  pub registers-call : (lent : Lfts 2) (image : RefT (List ℕ)) (chip : ℕ) (view : RefT (List ℕ))
+      → Only (am9519a-registers.Asked lent (image, (chip, (view, tt))))
+      (λ (c : Called). am9519a-registers.Post lent (image, (chip, (view, tt))) (c .number) (image, (chip, (at-last view (c .buffer), tt))))
+      (registersCall (image .now) chip (view .now))
+  pub pins-call : (lent : Lfts 2) (image : RefT (List ℕ)) (chip : ℕ) (view : RefT (List ℕ))
+      → Only (am9519a-pins.Asked lent (image, (chip, (view, tt))))
+      (λ (c : Called). am9519a-pins.Post lent (image, (chip, (view, tt))) (c .number) (image, (chip, (at-last view (c .buffer), tt))))
+      (pinsCall (image .now) chip (view .now))

@@ -1,0 +1,311 @@
+-- The calls from C, proved: a call's verdict decides its number and what it writes; a run's number tells which of its two parts decided.
+-- Assumes nothing.
+use mathlib.Core.Bool.{Bool, true, false, not, cond}
+use mathlib.Core.List.{List, [], _∷_, _++_}
+use mathlib.Core.Path.{_≡_, refl, ap, sym, subst, _∙_}
+use Prim.Native.Nat.{ℕ, _+_, _-_, _%_, _/_, _≤_, _<_, min}
+use native.Mathlib.Nat.{zero-add}
+use native.Mathlib.Omega.{arith}
+use borrow.Author.Tests.{not-false, leb-false}
+use lib.Dec.{eqb, leb, ltb}
+use lib.ListN.{getD, length, drop}
+use lib.Seq.{getD-append-add, getD-drop}
+use Rattle.bits.proofs.Below.{either}
+use Rattle.refusal.proofs.Numbers.{not-zero, not-both, passed-first, passed-rest, accepted-is}
+use Rattle.refusal.specs.Numbers.{verdictNumber, isAccepted, firstOf}
+use Rattle.refusal.specs.declared.Refusal.the-variants.{NotSound, NoSuchChip, BrokenEvent, ShortResults}
+use Rattle.refusal.specs.declared.Verdict.{Verdict}
+use Rattle.refusal.specs.declared.Verdict.the-variants.{Accepted, Refused}
+use Rattle.chain.specs.Answers.{tabled, pictured}
+use Rattle.chain.specs.Refusals.{notSound, noSuchChip}
+use Rattle.chain.specs.Sound.{sound, countSound}
+use Rattle.chain.specs.Start.{startOf}
+use Rattle.chain.specs.Views.{tableOf, pictureOf}
+use Rattle.chain.specs.declared.Chain.{Chain}
+use Rattle.chain.specs.declared.PinView.{PinView}
+use Rattle.chain.specs.declared.Pins.{Pins}
+use Rattle.chain.specs.declared.RegisterView.{RegisterView}
+use Rattle.chain.specs.declared.Registers.{Registers}
+use Rattle.run.proofs.Before as before-any
+use Rattle.run.specs.Run.{Report, brokenEvent, shortResults, beforeAny, runOf}
+use Rattle.image.proofs.OneToOne.{written-back}
+use Rattle.image.specs.Layout.{head, imageOf, over}
+use Rattle.image.specs.Reading.{byte, chainIn, isImage}
+use Rattle.am9519a.specs.Calls.{RunCalled, notAnImage, shortBuffer, called, viewCheck, runCheck, tableBytes, pictureBytes, startCall, runCall, registersCall, pinsCall}
+use Rattle.demands.specs.Agree.{Agree}
+use Rattle.demands.specs.FromC.{isBeforeAny, noImage, Left, FromC, BytesAgree, AsTheModel}
+use Rattle.demands.specs.Table.{Entry, Numbered, given, runEntries, listedEntries, lastEntries, fourBytes}
+use Rattle.demands.proofs.Agree.{one-state}
+use Rattle.demands.proofs.Rules.{by-the-rules}
+use Rattle.demands.proofs.Runs.{runs-keep}
+use Rattle.demands.proofs.Table.{first-given, by-the-table}
+
+-- a call by its verdict
+refused-leaves : (v : Verdict) (old new : List ℕ) → (called v old new .number ≡ 0 → ⊥) → called v old new .buffer ≡ old
+unfolding called
+refused-leaves (Refused why) old new other = refl
+refused-leaves Accepted old new other = absurd (other refl)
+
+accepted-writes : (v : Verdict) (old new : List ℕ) → called v old new .number ≡ 0 → called v old new .buffer ≡ new
+unfolding called
+accepted-writes Accepted old new e = refl
+accepted-writes (Refused why) old new e = absurd (not-zero why e)
+
+is-accepted : (v : Verdict) (old new : List ℕ) → called v old new .number ≡ 0 → v ≡ Accepted
+unfolding called
+is-accepted Accepted old new e = refl
+is-accepted (Refused why) old new e = absurd (not-zero why e)
+
+-- a start
+start-number : (count fill : ℕ) (image : List ℕ)
+    → startCall count fill image .number ≡ given ((1, not (eqb (length image) 528)) ∷ (1, not (countSound count)) ∷ [])
+unfolding startCall called startOf
+start-number count fill image = by (eqb (length image) 528) (countSound count) refl refl
+  where
+    by : (long within : Bool) → eqb (length image) 528 ≡ long → countSound count ≡ within
+        → startCall count fill image .number ≡ given ((1, not (eqb (length image) 528)) ∷ (1, not (countSound count)) ∷ [])
+    by false within e f = simp (e)
+    by true true e f = simp (e, f)
+    by true false e f = simp (e, f)
+
+-- a view
+past : (old new : List ℕ) (k : ℕ) → length new ≤ k → getD (over old 0 new) k 0 ≡ getD old k 0
+past old new k h =
+    let n : ℕ = k - length new in
+    let all : length new + n ≡ k = omega arith in
+    subst (λ (m : ℕ). getD (over old 0 new) m 0 ≡ getD old m 0) all
+    (getD-append-add new (drop (0 + length new) old) n 0
+    ∙ getD-drop (0 + length new) old n 0
+    ∙ ap (λ (m : ℕ). getD old (m + n) 0) (zero-add (length new)))
+
+view-rest : (v : Verdict) (view new : List ℕ) (k : ℕ) → length new ≤ k → getD (called v view (over view 0 new) .buffer) k 0 ≡ getD view k 0
+unfolding called
+view-rest Accepted view new k h = past view new k h
+view-rest (Refused why) view new k h = refl
+
+-- one that is accepted is of an image, of a sound chain, and of a chip in its count
+seen : (n : ℕ) (image : List ℕ) (chip : ℕ) (view : List ℕ) (s : Chain)
+    → firstOf (notAnImage image ∷ notSound s ∷ noSuchChip chip s ∷ shortBuffer n view ∷ []) ≡ Accepted
+    → (isImage image ≡ true) × ((sound s ≡ true) × (chip < s .count))
+seen n image chip view s is =
+    let rest : firstOf (notSound s ∷ noSuchChip chip s ∷ shortBuffer n view ∷ []) ≡ Accepted =
+    passed-rest (not (isImage image)) NotSound (notSound s ∷ noSuchChip chip s ∷ shortBuffer n view ∷ []) is in (
+      not-false (isImage image) (passed-first (not (isImage image)) NotSound (notSound s ∷ noSuchChip chip s ∷ shortBuffer n view ∷ []) is),
+      (
+        not-false (sound s) (passed-first (not (sound s)) NotSound (noSuchChip chip s ∷ shortBuffer n view ∷ []) rest),
+        leb-false (s .count) chip
+            (passed-first (leb (s .count) chip) NoSuchChip (shortBuffer n view ∷ [])
+            (passed-rest (not (sound s)) NotSound (noSuchChip chip s ∷ shortBuffer n view ∷ []) rest)),
+      ),
+    )
+
+-- the bytes of views that agree
+bytes-agree : (t : Registers) (p : Pins) (table picture : List ℕ) → Agree t p → BytesAgree (over table 0 (tableBytes t)) (over picture 0 (pictureBytes p))
+bytes-agree t p table picture a =
+    record {
+      event-low = ap (λ (n : ℕ). n % 256) (a .events);
+      event-high = ap (λ (n : ℕ). n / 256) (a .events);
+      s6-is-ei = a .s6-is-ei;
+      gint-is-s7-and-not-s4 = a .gint-is-s7-and-not-s4;
+    }
+
+-- a run: which numbers come before any event
+before-first : (a b c d : Bool)
+    → isBeforeAny (verdictNumber (firstOf ((a, NotSound) ∷ (b, NotSound) ∷ (c, BrokenEvent) ∷ (d, ShortResults) ∷ [])))
+    ≡ not (isAccepted (firstOf ((a, NotSound) ∷ (b, NotSound) ∷ (c, BrokenEvent) ∷ (d, ShortResults) ∷ [])))
+before-first true b c d = refl
+before-first false true c d = refl
+before-first false false true d = refl
+before-first false false false true = refl
+before-first false false false false = refl
+
+-- entries of which none that applies is 1, 10 or 11
+abbrev Later : List Entry → Type 0
+Later [] = Unit {0}
+Later (entry ∷ entries) = (entry .1 ≡ true → isBeforeAny (entry .0) ≡ false) × Later entries
+
+later-given : (l : List Entry) → Later l → isBeforeAny (given l) ≡ false
+later-given [] h = refl
+later-given ((n, true) ∷ l) h = h .0 refl
+later-given ((n, false) ∷ l) h = later-given l (h .1)
+
+before-number : (image events results : List ℕ) → isAccepted (runCheck image events results) ≡ false
+    → isBeforeAny (verdictNumber (runCheck image events results)) ≡ true
+before-number image events results off =
+    before-first (not (isImage image)) (not (sound (chainIn image))) (brokenEvent events .0) (shortResults events results .0) ∙ ap not off
+
+-- of a sound chain no event is refused by one of them
+listed-later : (e : Numbered) (s : Chain) → sound s ≡ true → Later (listedEntries e s)
+listed-later e s is = (
+  λ a. refl,
+  (
+    λ a. not-both (sym (ap not is) ∙ a),
+    (λ a. refl, (λ a. refl, (λ a. refl, (λ a. refl, (λ a. refl, (λ a. refl, (λ a. refl, (λ a. refl, tt)))))))),
+  ),
+)
+
+run-later : (s : Chain) (events : List ℕ) (limit : ℕ) (results : List ℕ) → isAccepted (beforeAny s events results) ≡ true
+    → Later (runEntries s events results ++ lastEntries events (min limit (length events / 4)) (runOf s events limit results))
+unfolding beforeAny
+run-later s events limit results on =
+    let is : sound s ≡ true = before-any.before-sound s events results on in
+    let rest : firstOf (brokenEvent events ∷ shortResults events results ∷ []) ≡ Accepted =
+    passed-rest (not (sound s)) NotSound (brokenEvent events ∷ shortResults events results ∷ []) (accepted-is _ on) in
+    let whole : brokenEvent events .0 ≡ false = passed-first (brokenEvent events .0) BrokenEvent (shortResults events results ∷ []) rest in
+    let room : shortResults events results .0 ≡ false =
+    passed-first (shortResults events results .0) ShortResults [] (passed-rest (brokenEvent events .0) BrokenEvent (shortResults events results ∷ []) rest) in
+    let r : Report = runOf s events limit results in (
+      λ a. not-both (sym (ap not is) ∙ a),
+      (
+        λ a. not-both (sym whole ∙ a),
+        (
+          λ a. not-both (sym room ∙ a),
+          either Later (ltb (r .ran .accepted) (min limit (length events / 4))) _ _
+              (λ within. listed-later (fourBytes events (r .ran .accepted)) (r .ran .chain) (runs-keep .sound-kept s events limit results is))
+              (λ at-end. tt),
+        ),
+      ),
+    )
+
+-- what a run takes before any event, of an image
+of-image : (image events results : List ℕ) → isImage image ≡ true → runCheck image events results ≡ beforeAny (chainIn image) events results
+unfolding beforeAny
+of-image image events results is =
+    ap (λ (b : Bool). cond (not b) (Refused NotSound) (firstOf (notSound (chainIn image) ∷ brokenEvent events ∷ shortResults events results ∷ []))) is
+
+is-of-image : (image events results : List ℕ) → isAccepted (runCheck image events results) ≡ true → isImage image ≡ true
+is-of-image image events results on =
+    not-false (isImage image)
+    (passed-first (not (isImage image)) NotSound (notSound (chainIn image) ∷ brokenEvent events ∷ shortResults events results ∷ []) (accepted-is _ on))
+
+at-event-number : (image events : List ℕ) (limit : ℕ) (results : List ℕ) → isAccepted (runCheck image events results) ≡ true
+    → isBeforeAny (verdictNumber (runOf (chainIn image) events limit results .ran .verdict)) ≡ false
+at-event-number image events limit results on =
+    ap isBeforeAny (by-the-table .run (chainIn image) events limit results)
+    ∙ later-given (runEntries (chainIn image) events results ++ lastEntries events (min limit (length events / 4)) (runOf (chainIn image) events limit results))
+    (run-later (chainIn image) events limit results (ap isAccepted (sym (of-image image events results (is-of-image image events results on))) ∙ on))
+
+run-refused : (image events : List ℕ) (limit : ℕ) (results : List ℕ) (accepted : ℕ)
+    → isBeforeAny (runCall image events limit results accepted .number) ≡ true
+    → Left (runCall image events limit results accepted) image results accepted
+unfolding runCall
+run-refused image events limit results accepted =
+    either (λ (c : RunCalled). isBeforeAny (c .number) ≡ true → Left c image results accepted) (isAccepted (runCheck image events results)) _ _
+    (λ on before. not-both (sym (at-event-number image events limit results on) ∙ before))
+    (λ off before. record { in-image = refl; in-results = refl; in-accepted = refl })
+
+run-goes : (image events : List ℕ) (limit : ℕ) (results : List ℕ) (accepted : ℕ)
+    → isBeforeAny (runCall image events limit results accepted .number) ≡ false
+    → let r : Report = runOf (chainIn image) events limit results in
+    Left (runCall image events limit results accepted) (imageOf (r .ran .chain)) (r .results) (r .ran .accepted)
+unfolding runCall
+run-goes image events limit results accepted =
+    let r : Report = runOf (chainIn image) events limit results in
+    either (λ (c : RunCalled). isBeforeAny (c .number) ≡ false → Left c (imageOf (r .ran .chain)) (r .results) (r .ran .accepted))
+    (isAccepted (runCheck image events results)) _ _
+    (λ on later. record { in-image = refl; in-results = refl; in-accepted = refl })
+    (λ off later. not-both (sym later ∙ before-number image events results off))
+
+-- of an image, a run's number is that of the model's run
+image-number : (image events : List ℕ) (limit : ℕ) (results : List ℕ) (accepted : ℕ) → isImage image ≡ true
+    → runCall image events limit results accepted .number ≡ verdictNumber (runOf (chainIn image) events limit results .ran .verdict)
+unfolding runCall
+image-number image events limit results accepted is =
+    either (λ (c : RunCalled). c .number ≡ verdictNumber (runOf (chainIn image) events limit results .ran .verdict))
+    (isAccepted (runCheck image events results)) _ _
+    (λ on. refl)
+    (λ off. sym (ap (λ (r : Report). verdictNumber (r .ran .verdict))
+    (before-any.refused-before (chainIn image) events limit results (runCheck image events results) (of-image image events results is) off)))
+
+run-number : (image events : List ℕ) (limit : ℕ) (results : List ℕ) (accepted : ℕ)
+    → runCall image events limit results accepted .number
+    ≡ given (noImage image ∷ runEntries (chainIn image) events results ++ lastEntries events (min limit (length events / 4)) (runOf (chainIn image) events limit results))
+unfolding runCall
+run-number image events limit results accepted = by (isImage image) refl
+  where
+    entries : List Entry
+    entries = runEntries (chainIn image) events results ++ lastEntries events (min limit (length events / 4)) (runOf (chainIn image) events limit results)
+
+    by : (is : Bool) → isImage image ≡ is → runCall image events limit results accepted .number ≡ given (noImage image ∷ entries)
+    by true is =
+        image-number image events limit results accepted is
+        ∙ by-the-table .run (chainIn image) events limit results
+        ∙ sym (ap (λ (b : Bool). cond (not b) 1 (given entries)) is)
+    by false is = simp is
+
+not-started : (count fill : ℕ) (image : List ℕ) → (startCall count fill image .number ≡ 0 → ⊥) → startCall count fill image .buffer ≡ image
+unfolding startCall
+not-started count fill image other = refused-leaves _ image (imageOf (startOf count fill .chain)) other
+
+started : (count fill : ℕ) (image : List ℕ) → startCall count fill image .number ≡ 0 → startCall count fill image .buffer ≡ imageOf (startOf count fill .chain)
+unfolding startCall
+started count fill image e = accepted-writes _ image (imageOf (startOf count fill .chain)) e
+
+-- the views
+table-shown : (image : List ℕ) (chip : ℕ) (view : List ℕ) → registersCall image chip view .number ≡ 0
+    → registersCall image chip view .buffer ≡ over view 0 (tableBytes (tableOf chip (chainIn image)))
+unfolding registersCall
+table-shown image chip view e = accepted-writes (viewCheck 9 image chip view) view _ e
+
+picture-shown : (image : List ℕ) (chip : ℕ) (view : List ℕ) → pinsCall image chip view .number ≡ 0
+    → pinsCall image chip view .buffer ≡ over view 0 (pictureBytes (pictureOf chip (chainIn image)))
+unfolding pinsCall
+picture-shown image chip view e = accepted-writes (viewCheck 8 image chip view) view _ e
+
+table-seen : (image : List ℕ) (chip : ℕ) (view : List ℕ) → registersCall image chip view .number ≡ 0
+    → (isImage image ≡ true) × ((sound (chainIn image) ≡ true) × (chip < chainIn image .count))
+unfolding registersCall
+table-seen image chip view e =
+    seen 9 image chip view (chainIn image)
+    (is-accepted (viewCheck 9 image chip view) view (over view 0 (tableBytes (tableOf chip (chainIn image)))) e)
+
+picture-seen : (image : List ℕ) (chip : ℕ) (view : List ℕ) → pinsCall image chip view .number ≡ 0
+    → (isImage image ≡ true) × ((sound (chainIn image) ≡ true) × (chip < chainIn image .count))
+unfolding pinsCall
+picture-seen image chip view e =
+    seen 8 image chip view (chainIn image)
+    (is-accepted (viewCheck 8 image chip view) view (over view 0 (pictureBytes (pictureOf chip (chainIn image)))) e)
+
+head-event : (image : List ℕ) → isImage image ≡ true → (chainIn image .event % 256 ≡ byte image 3) × (chainIn image .event / 256 ≡ byte image 4)
+unfolding imageOf head
+head-event image is =
+    let again : imageOf (chainIn image) ≡ image = written-back image is in
+    (ap (λ (b : List ℕ). byte b 3) again, ap (λ (b : List ℕ). byte b 4) again)
+
+pub from-c : FromC
+unfolding registersCall pinsCall called
+from-c =
+    record {
+      start-number = start-number;
+      run-number = run-number;
+      registers-number = λ image chip view. first-given (notAnImage image ∷ notSound (chainIn image) ∷ noSuchChip chip (chainIn image) ∷ shortBuffer 9 view ∷ []);
+      pins-number = λ image chip view. first-given (notAnImage image ∷ notSound (chainIn image) ∷ noSuchChip chip (chainIn image) ∷ shortBuffer 8 view ∷ []);
+      start-refused = not-started;
+      run-refused = run-refused;
+      registers-refused = λ image chip view other. refused-leaves (viewCheck 9 image chip view) view _ other;
+      pins-refused = λ image chip view other. refused-leaves (viewCheck 8 image chip view) view _ other;
+      registers-rest = λ image chip view. view-rest (viewCheck 9 image chip view) view (tableBytes (tableOf chip (chainIn image)));
+      pins-rest = λ image chip view. view-rest (viewCheck 8 image chip view) view (pictureBytes (pictureOf chip (chainIn image)));
+    }
+
+pub as-the-model : AsTheModel
+as-the-model =
+    record {
+      start = started;
+      run = run-goes;
+      registers = λ image chip view e.
+          let h : (isImage image ≡ true) × ((sound (chainIn image) ≡ true) × (chip < chainIn image .count)) = table-seen image chip view e in
+          table-shown image chip view e
+          ∙ sym (ap (λ (v : RegisterView). over view 0 (tableBytes (tabled v .registers))) (by-the-rules .table (chainIn image) chip (h .1 .0) (h .1 .1)));
+      pins = λ image chip view e.
+          let h : (isImage image ≡ true) × ((sound (chainIn image) ≡ true) × (chip < chainIn image .count)) = picture-seen image chip view e in
+          picture-shown image chip view e
+          ∙ sym (ap (λ (v : PinView). over view 0 (pictureBytes (pictured v .pins))) (by-the-rules .picture (chainIn image) chip (h .1 .0) (h .1 .1)));
+      agree = λ image chip table picture e f.
+          subst (λ (b : List ℕ). BytesAgree b (pinsCall image chip picture .buffer)) (sym (table-shown image chip table e))
+          (subst (BytesAgree (over table 0 (tableBytes (tableOf chip (chainIn image))))) (sym (picture-shown image chip picture f))
+          (bytes-agree (tableOf chip (chainIn image)) (pictureOf chip (chainIn image)) table picture (one-state (chainIn image) chip)));
+      event-of-image = λ image chip view e.
+          let h : (chainIn image .event % 256 ≡ byte image 3) × (chainIn image .event / 256 ≡ byte image 4) = head-event image (table-seen image chip view e .0) in
+          (ap (λ (b : List ℕ). byte b 0) (table-shown image chip view e) ∙ h .0, ap (λ (b : List ℕ). byte b 1) (table-shown image chip view e) ∙ h .1);
+    }
