@@ -28,8 +28,9 @@ use Rattle.chain.specs.declared.RegisterView.{RegisterView}
 use Rattle.chain.specs.declared.Registers.{Registers}
 use Rattle.run.proofs.Before as before-any
 use Rattle.run.specs.Run.{Report, brokenEvent, shortResults, beforeAny, runOf}
-use Rattle.image.proofs.OneToOne.{written-back}
+use Rattle.image.proofs.OneToOne.{one-to-one}
 use Rattle.image.specs.Layout.{head, imageOf, over}
+use Rattle.image.specs.OneToOne.{Whole}
 use Rattle.image.specs.Reading.{byte, chainIn, isImage}
 use Rattle.am9519a.specs.Calls.{RunCalled, notAnImage, shortBuffer, called, viewCheck, runCheck, tableBytes, pictureBytes, startCall, runCall, registersCall, pinsCall}
 use Rattle.demands.specs.Agree.{Agree}
@@ -39,6 +40,7 @@ use Rattle.demands.proofs.Agree.{one-state}
 use Rattle.demands.proofs.Rules.{by-the-rules}
 use Rattle.demands.proofs.Runs.{runs-keep}
 use Rattle.demands.proofs.Table.{first-given, by-the-table}
+use Rattle.demands.proofs.Whole.{run-whole, start-whole}
 
 -- a call by its verdict
 refused-leaves : (v : Verdict) (old new : List ℕ) → (called v old new .number ≡ 0 → ⊥) → called v old new .buffer ≡ old
@@ -206,6 +208,23 @@ run-goes image events limit results accepted =
     (λ on later. record { in-image = refl; in-results = refl; in-accepted = refl })
     (λ off later. not-both (sym later ∙ before-number image events results off))
 
+-- the image of a whole chain is read back
+read-again : (s : Chain) → Whole s → (isImage (imageOf s) ≡ true) × (chainIn (imageOf s) ≡ s)
+read-again s whole = (one-to-one .of-the-layout s whole, one-to-one .read-back s whole)
+
+run-read : (image events : List ℕ) (limit : ℕ) (results : List ℕ) (accepted : ℕ)
+    → isBeforeAny (runCall image events limit results accepted .number) ≡ false
+    → (isImage (runCall image events limit results accepted .image) ≡ true)
+    × (chainIn (runCall image events limit results accepted .image) ≡ runOf (chainIn image) events limit results .ran .chain)
+unfolding runCall
+run-read image events limit results accepted =
+    let r : Report = runOf (chainIn image) events limit results in
+    either (λ (c : RunCalled). isBeforeAny (c .number) ≡ false → (isImage (c .image) ≡ true) × (chainIn (c .image) ≡ r .ran .chain))
+    (isAccepted (runCheck image events results)) _ _
+    (λ on later. read-again (r .ran .chain)
+    (run-whole (chainIn image) events limit results (one-to-one .read-whole image (is-of-image image events results on))))
+    (λ off later. not-both (sym later ∙ before-number image events results off))
+
 -- of an image, a run's number is that of the model's run
 image-number : (image events : List ℕ) (limit : ℕ) (results : List ℕ) (accepted : ℕ) → isImage image ≡ true
     → runCall image events limit results accepted .number ≡ verdictNumber (runOf (chainIn image) events limit results .ran .verdict)
@@ -269,7 +288,7 @@ picture-seen image chip view e =
 head-event : (image : List ℕ) → isImage image ≡ true → (chainIn image .event % 256 ≡ byte image 3) × (chainIn image .event / 256 ≡ byte image 4)
 unfolding imageOf head
 head-event image is =
-    let again : imageOf (chainIn image) ≡ image = written-back image is in
+    let again : imageOf (chainIn image) ≡ image = one-to-one .written-back image is in
     (ap (λ (b : List ℕ). byte b 3) again, ap (λ (b : List ℕ). byte b 4) again)
 
 pub from-c : FromC
@@ -293,6 +312,10 @@ as-the-model =
     record {
       start = started;
       run = run-goes;
+      start-read = λ count fill image e.
+          subst (λ (b : List ℕ). (isImage b ≡ true) × (chainIn b ≡ startOf count fill .chain)) (sym (started count fill image e))
+          (read-again (startOf count fill .chain) (start-whole count fill));
+      run-read = run-read;
       registers = λ image chip view e.
           let h : (isImage image ≡ true) × ((sound (chainIn image) ≡ true) × (chip < chainIn image .count)) = table-seen image chip view e in
           table-shown image chip view e

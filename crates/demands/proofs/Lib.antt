@@ -14,4 +14,5 @@ pub mod Runs
 pub mod Table
 pub mod Unchanged
 pub mod Wait
+pub mod Whole
 pub mod Worked

@@ -75,6 +75,13 @@ pub record AsTheModel : Type 0 where
       → isBeforeAny (runCall image events limit results accepted .number) ≡ false
       → let r : Report = runOf (chainIn image) events limit results in
       Left (runCall image events limit results accepted) (imageOf (r .ran .chain)) (r .results) (r .ran .accepted)
+  -- what both leave is an image, and reading it gives the model's chain: that is the chain of the next call
+  pub start-read : (count fill : ℕ) (image : List ℕ) → startCall count fill image .number ≡ 0
+      → (isImage (startCall count fill image .buffer) ≡ true) × (chainIn (startCall count fill image .buffer) ≡ startOf count fill .chain)
+  pub run-read : (image events : List ℕ) (limit : ℕ) (results : List ℕ) (accepted : ℕ)
+      → isBeforeAny (runCall image events limit results accepted .number) ≡ false
+      → (isImage (runCall image events limit results accepted .image) ≡ true)
+      × (chainIn (runCall image events limit results accepted .image) ≡ runOf (chainIn image) events limit results .ran .chain)
   -- an accepted view has the bytes of the model's view
   pub registers : (image : List ℕ) (chip : ℕ) (view : List ℕ) → registersCall image chip view .number ≡ 0
       → registersCall image chip view .buffer ≡ over view 0 (tableBytes (tabled (registerView chip (chainIn image)) .registers))
