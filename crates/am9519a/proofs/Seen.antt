@@ -4,8 +4,8 @@ use mathlib.Core.Bool.{Bool, true, false, not, cond}
 use mathlib.Core.List.{List, [], _∷_}
 use mathlib.Core.Path.{_≡_, refl, sym, ap, _∙_}
 use Prim.Native.Nat.{ℕ, _≤_, _<_}
-use borrow.Author.Tests.{lt-ltb, le-ltb}
 use lib.ListN.{length}
+use borrow.Author.Tests.{lt-ltb, le-ltb}
 use Rattle.refusal.proofs.Numbers.{not-both, refused-already, accepted-so-far}
 use Rattle.refusal.specs.Numbers.{refusalNumber, isAccepted, firstOf}
 use Rattle.refusal.specs.declared.Refusal.{Refusal}

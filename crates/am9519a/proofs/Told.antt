@@ -2,10 +2,10 @@
 -- Assumes nothing.
 use mathlib.Core.Bool.{true, false}
 use mathlib.Core.List.{List}
-use mathlib.Core.Path.{_≡_, ap, _∙_}
+use mathlib.Core.Path.{_≡_}
 use Prim.Native.Nat.{ℕ}
-use borrow.Author.Tests.{ne-eqb, eq-eqb}
 use lib.ListN.{length}
+use borrow.Author.Tests.{ne-eqb, eq-eqb}
 use Rattle.refusal.specs.Numbers.{verdictNumber, isAccepted}
 use Rattle.refusal.specs.declared.Verdict.{Verdict}
 use Rattle.chain.specs.Answers.{verdictIn}

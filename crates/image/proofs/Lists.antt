@@ -3,13 +3,13 @@
 use mathlib.Core.Bool.{true, false, _&&_, false≢true}
 use mathlib.Core.List.{List, [], _∷_, _++_, append-nil, append-assoc}
 use mathlib.Core.Path.{_≡_, refl, sym, ap, ap₂, _∙_}
-use Prim.Native.Nat.{ℕ, zero, suc, _+_, _-_, _≤_, _<_}
+use Prim.Native.Nat.{ℕ, zero, suc, _+_, _-_, _≤_}
 use native.Mathlib.Nat.{zero-add, le-of-eq, le-refl}
+use lib.Dec.{eqb}
+use lib.ListN.{length, getD, take, drop, drop-of-length-le}
+use lib.Seq.{paste, length-paste, take-length, take-all, take-at, drop-drop, drop-append-add}
 use borrow.Rule.Slice.PartMut.{putMid, post-is}
 use borrow.Author.Tests.{ne-eqb, eq-eqb, eqb-true}
-use lib.Dec.{eqb}
-use lib.ListN.{length, getD, take, drop, length-append, drop-of-length-le}
-use lib.Seq.{paste, length-paste, take-length, take-all, take-at, drop-at, drop-drop, drop-append-add}
 use Rattle.bits.proofs.Below.{both-left, both-right, both-not}
 use Rattle.image.specs.Layout.{over}
 use Rattle.image.specs.Reading.{same}

@@ -1,19 +1,18 @@
 -- The image of a chain and the chain of an image: reading the one gives the other back, and so does writing.
 -- Assumes nothing.
 use mathlib.Core.Bool.{Bool, true, _&&_}
-use mathlib.Core.List.{List, _∷_, _++_}
+use mathlib.Core.List.{List}
 use mathlib.Core.Path.{_≡_, sym, ap, ap₂, subst, _∙_}
 use Prim.Native.Nat.{ℕ, _+_, _*_, _/_, _%_, _≤_, _<_}
 use native.Mathlib.Omega.{arith}
-use borrow.Author.Tests.{eqb-true, eq-eqb}
 use lib.Dec.{eqb}
 use lib.ListN.{length, drop, replicate, length-append, length-take, length-drop}
-use lib.Seq.{drop-at, drop-drop}
+use lib.Seq.{drop-at}
+use borrow.Author.Tests.{eqb-true, eq-eqb}
 use Rattle.bits.specs.Below.{digit}
 use Rattle.bits.proofs.Below.{both-left, both-right}
 use Rattle.chip.specs.Fields.{noChip}
 use Rattle.chip.specs.declared.Chip.{Chip}
-use Rattle.chain.specs.Fields.{chipAt}
 use Rattle.chain.specs.declared.Chain.{Chain}
 use Rattle.chain.specs.declared.Response.{Response}
 use Rattle.image.specs.Layout.{head, records, imageOf}

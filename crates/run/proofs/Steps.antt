@@ -9,6 +9,7 @@ use lib.ListN.{length, set, length-set}
 use Rattle.refusal.specs.Numbers.{isAccepted}
 use Rattle.refusal.specs.declared.Verdict.{Verdict}
 use Rattle.refusal.specs.declared.Verdict.the-variants.{Accepted, Refused}
+use Rattle.refusal.proofs.Numbers.{not-both}
 use Rattle.chain.proofs.Kept.{sound-kept}
 use Rattle.chain.specs.Answers.{verdictIn, Handed, handed}
 use Rattle.chain.specs.Sound.{sound}
@@ -21,7 +22,6 @@ use Rattle.chain.specs.declared.Event.{Event}
 use Rattle.chain.specs.declared.Event.the-variants.{Command, Data, Status, Read, Line, Enable, Fall, Rise}
 use Rattle.chain.specs.declared.Response.{Response}
 use Rattle.chain.specs.declared.Response.the-variants.{Idle, UnderWay}
-use Rattle.refusal.proofs.Numbers.{not-both}
 use Rattle.run.specs.List.{listedAt}
 use Rattle.run.specs.Run.{Report, stepOf, noted, stopped, runFrom, acceptedFrom}
 use Rattle.run.specs.declared.Listed.{Listed}

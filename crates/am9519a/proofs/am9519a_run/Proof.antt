@@ -1,59 +1,44 @@
+-- `am9519a::am9519a_run` meets its contract.
+-- Assumes nothing.
 use mathlib.Core.Bool.{true}
 use mathlib.Core.Path.{_≡_, sym, ap, _∙_}
 use borrow.Author.Tests.{not-true, not-false}
+use borrow.Author.Needs.{needs}
 use Rattle.refusal.specs.Numbers.{verdictNumber, isAccepted}
+use Rattle.run.specs.Run.{beforeAny}
 use Rattle.image.specs.Layout.{imageOf}
 use Rattle.image.specs.Reading.{isImage, chainIn}
 use Rattle.image.proofs.OneToOne.{image-length, written-back}
-use Rattle.run.specs.Run.{beforeAny}
 use Rattle.am9519a.proofs.Told.{run-no-image, run-refused, run-done}
-use borrow.Author.Needs.{needs}
 use Rattle.am9519a.proofs.am9519a_run.Statement.{statement}
 use Rattle.am9519a.proofs.am9519a_run.Tie as tie
-use Rattle.am9519a.proofs.am9519a_run.Reads as reads
-use Rattle.am9519a.proofs.am9519a_run.Lts as lts
-use Rattle.image.proofs.is_image.Reads as is-image-reads
-use Rattle.image.proofs.reading.chain_in.Reads as chain-in-reads
-use Rattle.refusal.proofs.Verdict.is_accepted.Reads as is-accepted-reads
-use Rattle.refusal.proofs.Verdict.number.Reads as number-reads
-use Rattle.run.proofs.before_any.Reads as before-any-reads
-use Rattle.run.proofs.in_place.run_in.Reads as run-in-reads
 
--- src/lib.rt:62:9
 is-image-requires : tie.Need-is-image-requires
 is-image-requires c κs = search needs
 
--- src/lib.rt:63:9
 same-length : tie.Need-same-length
 same-length c = search needs
 
--- src/lib.rt:63:9
 returns : tie.Need-returns
 returns c =
     let told = run-no-image (c .before .before .before .before .before .before .args .image .now) (c .before .before .before .before .before .before .args .events .now) (c .before .before .before .before .before .before .args .limit) (c .before .before .before .before .before .before .args .results .now) (c .before .before .before .before .before .before .args .accepted .now) (sym (c .before .is-image .ensures) ∙ not-true (c .before .is-image .result) (c .if1 .taken)) in
     (sym (ap (λ r. r .number) told), (sym (ap (λ r. r .image) told), (sym (ap (λ r. r .results) told), sym (ap (λ r. r .accepted) told))))
 
--- src/lib.rt:65:35
 chain-in-requires : tie.Need-chain-in-requires
 chain-in-requires c κs = image-length (c .before .before .before .before .before .before .before .args .image .now) (sym (c .before .before .is-image .ensures) ∙ not-false (c .before .before .is-image .result) (c .before .if1 .left))
 
--- src/lib.rt:65:9
 before-any-requires : tie.Need-before-any-requires
 before-any-requires c κs = search needs
 
--- src/lib.rt:66:9
 is-accepted-requires : tie.Need-is-accepted-requires
 is-accepted-requires c κs = search needs
 
--- src/lib.rt:67:9
 number-requires : tie.Need-number-requires
 number-requires c κs = search needs
 
--- src/lib.rt:67:9
 same-length-2 : tie.Need-same-length-2
 same-length-2 c = search needs
 
--- src/lib.rt:67:9
 returns-2 : tie.Need-returns-2
 unfolding beforeAny
 returns-2 c =
@@ -62,7 +47,6 @@ returns-2 c =
     let told = run-refused (c .before .before .before .before .before .before .before .before .before .before .before .before .args .image .now) (c .before .before .before .before .before .before .before .before .before .before .before .before .args .events .now) (c .before .before .before .before .before .before .before .before .before .before .before .before .args .limit) (c .before .before .before .before .before .before .before .before .before .before .before .before .args .results .now) (c .before .before .before .before .before .before .before .before .before .before .before .before .args .accepted .now) (c .before .before .before .before-any .result) on is (sym (c .before .before .is-accepted .ensures) ∙ not-true (c .before .before .is-accepted .result) (c .before .if2 .taken)) in
     (c .number .ensures ∙ sym (ap (λ r. r .number) told), (sym (ap (λ r. r .image) told), (sym (ap (λ r. r .results) told), sym (ap (λ r. r .accepted) told))))
 
--- src/lib.rt:69:9
 run-in-requires : tie.Need-run-in-requires
 unfolding beforeAny
 run-in-requires c κs =
@@ -70,19 +54,15 @@ run-in-requires c κs =
     let go : isAccepted (c .before .before .before .before .before-any .result) ≡ true = sym (c .before .before .before .is-accepted .ensures) ∙ not-false (c .before .before .before .is-accepted .result) (c .before .before .if2 .left) in
     (sym (c .before .before .before .before .before .before .before .before .is-image .ensures) ∙ not-false (c .before .before .before .before .before .before .before .before .is-image .result) (c .before .before .before .before .before .before .before .if1 .left), ap isAccepted (sym is) ∙ go)
 
--- src/lib.rt:72:5
 number-requires-2 : tie.Need-number-requires-2
 number-requires-2 c κs = search needs
 
--- src/lib.rt:49:1
 same-length-3 : tie.Need-same-length-3
 same-length-3 c = search needs
 
--- src/lib.rt:49:1
 same-length-4 : tie.Need-same-length-4
 same-length-4 c = search needs
 
--- src/lib.rt:49:1
 returns-3 : tie.Need-returns-3
 unfolding beforeAny
 returns-3 c =

@@ -1,3 +1,5 @@
+-- `image::events::data_verdict` meets its contract.
+-- Assumes nothing.
 use mathlib.Core.Bool.{true}
 use mathlib.Core.List.{[], _∷_}
 use mathlib.Core.Path.{_≡_, sym, _∙_}
@@ -5,6 +7,7 @@ use native.Mathlib.Omega.{arith}
 use lib.Dec.{eqb, ltb}
 use lib.ListN.{getD}
 use borrow.Author.Tests.{ltb-true, not-true, not-false}
+use borrow.Author.Needs.{needs}
 use Rattle.refusal.specs.Numbers.{firstOf}
 use Rattle.chain.specs.Refusals.{noSuchChip, pulseUnderWay, noDestination, pastItsCount, verdictOf}
 use Rattle.chain.specs.declared.Event.the-variants.{Data}
@@ -12,33 +15,21 @@ use Rattle.chain.proofs.Passed.{sound-verdict, in-eight, bus-names, refused-at-
 use Rattle.chain.proofs.Soundness.{chip-sound}
 use Rattle.image.specs.Reading.{chainIn}
 use Rattle.image.proofs.OneToOne.{image-length}
-use borrow.Author.Needs.{needs}
 use Rattle.image.proofs.events.data_verdict.Statement.{statement}
 use Rattle.image.proofs.events.data_verdict.Tie as tie
-use Rattle.image.proofs.events.data_verdict.Reads as reads
-use Rattle.image.proofs.events.data_verdict.Lts as lts
-use Rattle.chain.proofs.refusals.bus_verdict.Reads as bus-verdict-reads
-use Rattle.chain.proofs.refusals.write_verdict.Reads as write-verdict-reads
-use Rattle.image.proofs.places.chip_at.Reads as chip-at-reads
-use Rattle.refusal.proofs.Verdict.is_accepted.Reads as is-accepted-reads
 
--- src/events.rt:107:27
 shared-slice-read-bus-verdict : tie.Need-shared-slice-read-bus-verdict
 shared-slice-read-bus-verdict c = omega (arith, image-length (c .before .before .args .image .now) (c .before .before .pre .0))
 
--- src/events.rt:107:37
 shared-slice-read-bus-verdict-2 : tie.Need-shared-slice-read-bus-verdict-2
 shared-slice-read-bus-verdict-2 c = omega (arith, image-length (c .before .before .before .args .image .now) (c .before .before .before .pre .0))
 
--- src/events.rt:107:9
 bus-verdict-requires : tie.Need-bus-verdict-requires
 bus-verdict-requires c κs = search needs
 
--- src/events.rt:108:9
 is-accepted-requires : tie.Need-is-accepted-requires
 is-accepted-requires c κs = search needs
 
--- src/events.rt:109:9
 -- once the bus has accepted, the rest decides
 rest-decides : (c : tie.Else1) → verdictOf (Data (c .before .before .before .before .before .before .args .i) (c .before .before .before .before .before .before .args .byte)) (chainIn (c .before .before .before .before .before .before .args .image .now)) ≡ firstOf (noDestination (c .before .before .before .before .before .before .args .i) (chainIn (c .before .before .before .before .before .before .args .image .now)) ∷ pastItsCount (c .before .before .before .before .before .before .args .i) (chainIn (c .before .before .before .before .before .before .args .image .now)) ∷ [])
 unfolding chainIn
@@ -58,15 +49,12 @@ returns c =
     refused-at-first (noSuchChip (c .before .before .before .before .before .before .args .i) (chainIn (c .before .before .before .before .before .before .args .image .now)) ∷ pulseUnderWay (chainIn (c .before .before .before .before .before .before .args .image .now)) ∷ []) (noDestination (c .before .before .before .before .before .before .args .i) (chainIn (c .before .before .before .before .before .before .args .image .now)) ∷ pastItsCount (c .before .before .before .before .before .before .args .i) (chainIn (c .before .before .before .before .before .before .args .image .now)) ∷ []) _ _ (c .before .before .bus-verdict .ensures) (c .before .is-accepted .ensures) (not-true _ (c .if1 .taken))
     ∙ sym (sound-verdict (Data (c .before .before .before .before .before .before .args .i) (c .before .before .before .before .before .before .args .byte)) (chainIn (c .before .before .before .before .before .before .args .image .now)) (c .before .before .before .before .before .before .pre .1))
 
--- src/events.rt:111:19
 chip-at-requires : tie.Need-chip-at-requires
 chip-at-requires c κs = (c .before .before .before .before .before .before .pre .0, in-eight (chainIn (c .before .before .before .before .before .before .args .image .now)) _ (c .before .before .before .before .before .before .pre .1) (named (c)))
 
--- src/events.rt:111:5
 write-verdict-requires : tie.Need-write-verdict-requires
 write-verdict-requires c κs = rw (c .chip-at .ensures) (chip-sound (chainIn (c .before .before .before .before .before .before .before .args .image .now)) _ (c .before .before .before .before .before .before .before .pre .1) (ltb-true _ _ (named (c .before))))
 
--- src/events.rt:102:1
 returns-2 : tie.Need-returns-2
 returns-2 c = simp (rest-decides (c .before .before), ← c .before .chip-at .ensures, c .write-verdict .ensures)
 

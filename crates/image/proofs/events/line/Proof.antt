@@ -1,34 +1,26 @@
+-- `image::events::line` meets its contract.
+-- Assumes nothing.
 use mathlib.Core.Path.{ap, _∙_}
+use borrow.Author.Needs.{needs}
 use Rattle.chain.proofs.Passed.{in-eight, passed-sound, passed-names}
 use Rattle.chain.specs.Events.{changed}
 use Rattle.chain.specs.Fields.{withChip}
 use Rattle.image.specs.Reading.{chainIn}
-use borrow.Author.Needs.{needs}
 use Rattle.image.proofs.events.line.Statement.{statement}
 use Rattle.image.proofs.events.line.Tie as tie
-use Rattle.image.proofs.events.line.Reads as reads
-use Rattle.image.proofs.events.line.Lts as lts
-use Rattle.chip.proofs.Chip.line.Reads as line-reads
-use Rattle.image.proofs.places.chip_at.Reads as chip-at-reads
-use Rattle.image.proofs.places.set_chip.Reads as set-chip-reads
 
--- src/events.rt:60:9
 chip-at-requires : tie.Need-chip-at-requires
 chip-at-requires c κs = (c .before .before .pre .0, in-eight (chainIn (c .before .before .args .image .now)) _ (passed-sound _ (chainIn (c .before .before .args .image .now)) (c .before .before .pre .1)) (passed-names _ (chainIn (c .before .before .args .image .now)) (c .before .before .pre .1)))
 
--- src/events.rt:61:24
 line-requires : tie.Need-line-requires
 line-requires c κs = search needs
 
--- src/events.rt:61:5
 set-chip-requires : tie.Need-set-chip-requires
 set-chip-requires c κs = (c .before .before .before .before .before .pre .0, in-eight (chainIn (c .before .before .before .before .before .args .image .now)) _ (passed-sound _ (chainIn (c .before .before .before .before .before .args .image .now)) (c .before .before .before .before .before .pre .1)) (passed-names _ (chainIn (c .before .before .before .before .before .args .image .now)) (c .before .before .before .before .before .pre .1)))
 
--- src/events.rt:54:1
 same-length : tie.Need-same-length
 same-length c = search needs
 
--- src/events.rt:54:1
 returns : tie.Need-returns
 unfolding changed
 returns c = (c .before .before .set-chip .ensures .0, c .before .before .set-chip .ensures .1 ∙ ap (λ chip. withChip (c .before .before .before .before .before .before .before .before .args .i) chip (chainIn (c .before .before .before .before .before .before .before .before .args .image .now))) (simp (c .before .before .before .line .ensures, c .before .before .before .before .before .chip-at .ensures)))

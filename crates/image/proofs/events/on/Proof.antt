@@ -1,53 +1,40 @@
+-- `image::events::on` meets its contract.
+-- Assumes nothing.
 use mathlib.Core.Path.{_≡_, ap, sym, _∙_}
+use borrow.Author.Needs.{needs}
 use Rattle.refusal.specs.declared.Verdict.the-variants.{Accepted, Refused}
 use Rattle.chain.specs.Events.{accepted, refused, counted, judged, eventOf}
-use Rattle.chain.specs.Refusals.{verdictOf}
 use Rattle.image.specs.Reading.{chainIn}
-use borrow.Author.Needs.{needs}
 use Rattle.image.proofs.events.on.Statement.{statement}
 use Rattle.image.proofs.events.on.Tie as tie
-use Rattle.image.proofs.events.on.Reads as reads
-use Rattle.image.proofs.events.on.Lts as lts
-use Rattle.image.proofs.events.happens.Reads as happens-reads
-use Rattle.image.proofs.events.verdict_on.Reads as verdict-on-reads
-use Rattle.image.proofs.places.count_event.Reads as count-event-reads
 
--- src/events.rt:142:9
 verdict-on-requires : tie.Need-verdict-on-requires
 verdict-on-requires c κs = search needs
 
--- src/events.rt:145:34
 enum-told : tie.Need-enum-told
 enum-told c = search needs
 
--- src/events.rt:145:17
 happens-requires : tie.Need-happens-requires
 happens-requires c κs = (c .before .before .before .before .before .before .pre .0, sym (c .before .before .before .verdict-on .ensures) ∙ c .before .enum-told .given .1)
 
--- src/events.rt:146:13
 count-event-requires : tie.Need-count-event-requires
 count-event-requires c κs = search needs
 
--- src/events.rt:149:26
 enum-known-verdict : tie.Need-enum-known-verdict
 enum-known-verdict c = search needs
 
--- src/events.rt:135:1
 same-length : tie.Need-same-length
 same-length c = search needs
 
--- src/events.rt:135:1
 returns : tie.Need-returns
 unfolding eventOf judged accepted
 returns c =
     let is : eventOf (c .before .before .before .before .before .before .before .before .before .before .before .before .before .args .e) (chainIn (c .before .before .before .before .before .before .before .before .before .before .before .before .before .args .image .now)) ≡ judged Accepted (c .before .before .before .before .before .before .before .before .before .before .before .before .before .args .e) (chainIn (c .before .before .before .before .before .before .before .before .before .before .before .before .before .args .image .now)) = ap (λ v. judged v (c .before .before .before .before .before .before .before .before .before .before .before .before .before .args .e) (chainIn (c .before .before .before .before .before .before .before .before .before .before .before .before .before .args .image .now))) (sym (c .before .before .before .before .before .before .before .before .before .before .verdict-on .ensures) ∙ c .before .before .before .before .before .before .before .before .enum-told .given .1) in
     (c .before .before .before .before .before .before .happens .ensures .0 ∙ sym (ap (λ o. o .answer) is), (c .before .before .count-event .ensures .0, c .before .before .count-event .ensures .1 ∙ ap counted (c .before .before .before .before .before .before .happens .ensures .1 .1) ∙ sym (ap (λ o. o .chain) is)))
 
--- src/events.rt:135:1
 same-length-2 : tie.Need-same-length-2
 same-length-2 c = search needs
 
--- src/events.rt:135:1
 returns-2 : tie.Need-returns-2
 unfolding eventOf judged refused
 returns-2 c =

@@ -1,130 +1,97 @@
-use mathlib.Core.Path.{_≡_, ap, sym, _∙_}
+-- `image::events::verdict_on` meets its contract.
+-- Assumes nothing.
+use mathlib.Core.Path.{ap, sym, _∙_}
 use native.Mathlib.Omega.{arith}
+use borrow.Author.Needs.{needs}
 use Rattle.chain.specs.Refusals.{verdictOf}
 use Rattle.chain.proofs.Passed.{sound-verdict}
 use Rattle.image.specs.Reading.{chainIn}
 use Rattle.image.proofs.OneToOne.{image-length}
-use borrow.Author.Needs.{needs}
 use Rattle.image.proofs.events.verdict_on.Statement.{statement}
 use Rattle.image.proofs.events.verdict_on.Tie as tie
-use Rattle.image.proofs.events.verdict_on.Reads as reads
-use Rattle.image.proofs.events.verdict_on.Lts as lts
-use Rattle.chain.proofs.refusals.bus_verdict.Reads as bus-verdict-reads
-use Rattle.chain.proofs.refusals.command_verdict.Reads as command-verdict-reads
-use Rattle.chain.proofs.refusals.fall_verdict.Reads as fall-verdict-reads
-use Rattle.chain.proofs.refusals.level_verdict.Reads as level-verdict-reads
-use Rattle.chain.proofs.refusals.line_verdict.Reads as line-verdict-reads
-use Rattle.chain.proofs.refusals.rise_verdict.Reads as rise-verdict-reads
-use Rattle.image.proofs.events.data_verdict.Reads as data-verdict-reads
 
--- src/events.rt:120:17
 shared-slice-read-count : tie.Need-shared-slice-read-count
 shared-slice-read-count c = omega (arith, image-length (c .before .before .args .image .now) (c .before .before .pre .0))
 
--- src/events.rt:121:16
 shared-slice-read-iack : tie.Need-shared-slice-read-iack
 shared-slice-read-iack c = omega (arith, image-length (c .before .before .before .args .image .now) (c .before .before .before .pre .0))
 
--- src/events.rt:123:24
 enum-known-e : tie.Need-enum-known-e
 enum-known-e c = search needs
 
--- src/events.rt:123:36
 command-verdict-requires : tie.Need-command-verdict-requires
 command-verdict-requires c κs = search needs
 
--- src/events.rt:124:21
 enum-known-e-2 : tie.Need-enum-known-e-2
 enum-known-e-2 c = search needs
 
--- src/events.rt:124:33
 data-verdict-requires : tie.Need-data-verdict-requires
 data-verdict-requires c κs = search needs
 
--- src/events.rt:125:23
 enum-known-e-3 : tie.Need-enum-known-e-3
 enum-known-e-3 c = search needs
 
--- src/events.rt:125:29
 bus-verdict-requires : tie.Need-bus-verdict-requires
 bus-verdict-requires c κs = search needs
 
--- src/events.rt:126:21
 enum-known-e-4 : tie.Need-enum-known-e-4
 enum-known-e-4 c = search needs
 
--- src/events.rt:126:27
 bus-verdict-requires-2 : tie.Need-bus-verdict-requires-2
 bus-verdict-requires-2 c κs = search needs
 
--- src/events.rt:127:21
 enum-known-e-5 : tie.Need-enum-known-e-5
 enum-known-e-5 c = search needs
 
--- src/events.rt:127:43
 line-verdict-requires : tie.Need-line-verdict-requires
 line-verdict-requires c κs = search needs
 
--- src/events.rt:128:23
 enum-known-e-6 : tie.Need-enum-known-e-6
 enum-known-e-6 c = search needs
 
--- src/events.rt:128:33
 level-verdict-requires : tie.Need-level-verdict-requires
 level-verdict-requires c κs = search needs
 
--- src/events.rt:129:24
 enum-told : tie.Need-enum-told
 enum-told c = search needs
 
--- src/events.rt:129:24
 fall-verdict-requires : tie.Need-fall-verdict-requires
 fall-verdict-requires c κs = search needs
 
--- src/events.rt:130:24
 enum-told-2 : tie.Need-enum-told-2
 enum-told-2 c = search needs
 
--- src/events.rt:130:24
 rise-verdict-requires : tie.Need-rise-verdict-requires
 rise-verdict-requires c κs = search needs
 
--- src/events.rt:115:1
 returns : tie.Need-returns
 unfolding chainIn
 returns c = c .command-verdict .ensures ∙ sym (sound-verdict _ (chainIn (c .before .before .before .before .before .before .before .args .image .now)) (c .before .before .before .before .before .before .before .pre .1)) ∙ ap (λ e. verdictOf e (chainIn (c .before .before .before .before .before .before .before .args .image .now))) (sym (c .before .before .e .given .1))
 
--- src/events.rt:115:1
 returns-2 : tie.Need-returns-2
 unfolding chainIn
 returns-2 c = c .data-verdict .ensures ∙ ap (λ e. verdictOf e (chainIn (c .before .before .before .before .before .before .before .args .image .now))) (sym (c .before .before .e2 .given .1))
 
--- src/events.rt:115:1
 returns-3 : tie.Need-returns-3
 unfolding chainIn
 returns-3 c = c .bus-verdict .ensures ∙ sym (sound-verdict _ (chainIn (c .before .before .before .before .before .before .before .args .image .now)) (c .before .before .before .before .before .before .before .pre .1)) ∙ ap (λ e. verdictOf e (chainIn (c .before .before .before .before .before .before .before .args .image .now))) (sym (c .before .before .e3 .given .1))
 
--- src/events.rt:115:1
 returns-4 : tie.Need-returns-4
 unfolding chainIn
 returns-4 c = c .bus-verdict2 .ensures ∙ sym (sound-verdict _ (chainIn (c .before .before .before .before .before .before .before .args .image .now)) (c .before .before .before .before .before .before .before .pre .1)) ∙ ap (λ e. verdictOf e (chainIn (c .before .before .before .before .before .before .before .args .image .now))) (sym (c .before .before .e4 .given .1))
 
--- src/events.rt:115:1
 returns-5 : tie.Need-returns-5
 unfolding chainIn
 returns-5 c = c .line-verdict .ensures ∙ sym (sound-verdict _ (chainIn (c .before .before .before .before .before .before .before .args .image .now)) (c .before .before .before .before .before .before .before .pre .1)) ∙ ap (λ e. verdictOf e (chainIn (c .before .before .before .before .before .before .before .args .image .now))) (sym (c .before .before .e5 .given .1))
 
--- src/events.rt:115:1
 returns-6 : tie.Need-returns-6
 unfolding chainIn
 returns-6 c = c .level-verdict .ensures ∙ sym (sound-verdict _ (chainIn (c .before .before .before .before .before .before .before .args .image .now)) (c .before .before .before .before .before .before .before .pre .1)) ∙ ap (λ e. verdictOf e (chainIn (c .before .before .before .before .before .before .before .args .image .now))) (sym (c .before .before .e6 .given .1))
 
--- src/events.rt:115:1
 returns-7 : tie.Need-returns-7
 unfolding chainIn
 returns-7 c = c .fall-verdict .ensures ∙ sym (sound-verdict _ (chainIn (c .before .before .before .before .before .before .args .image .now)) (c .before .before .before .before .before .before .pre .1)) ∙ ap (λ e. verdictOf e (chainIn (c .before .before .before .before .before .before .args .image .now))) (sym (c .before .enum-told .given .1))
 
--- src/events.rt:115:1
 returns-8 : tie.Need-returns-8
 unfolding chainIn
 returns-8 c = c .rise-verdict .ensures ∙ sym (sound-verdict _ (chainIn (c .before .before .before .before .before .before .args .image .now)) (c .before .before .before .before .before .before .pre .1)) ∙ ap (λ e. verdictOf e (chainIn (c .before .before .before .before .before .before .args .image .now))) (sym (c .before .enum-told2 .given .1))

@@ -1,3 +1,5 @@
+-- `image::pins::ei_of` meets its contract.
+-- Assumes nothing.
 use mathlib.Core.Bool.{Bool}
 use mathlib.Core.Path.{_≡_, refl, ap, sym, _∙_}
 use Prim.Native.Nat.{_-_, _≤_}
@@ -8,9 +10,6 @@ use Rattle.image.specs.Reading.{chainIn}
 use Rattle.image.proofs.OneToOne.{image-length}
 use Rattle.image.proofs.pins.ei_of.Statement.{statement}
 use Rattle.image.proofs.pins.ei_of.Tie as tie
-use Rattle.image.proofs.pins.ei_of.Reads as reads
-use Rattle.image.proofs.pins.ei_of.Lts as lts
-use Rattle.image.proofs.pins.eo_at.Reads as eo-at-reads
 
 abbrev Inv-loop : tie.InvT-loop
 Inv-loop image i level₀ k₀ level k = (k ≤ i) × (level ≡ ei (chainIn image) k)
@@ -18,33 +17,26 @@ Inv-loop image i level₀ k₀ level k = (k ≤ i) × (level ≡ ei (chainIn ima
 abbrev μ-loop : tie.MeasureT-loop
 μ-loop image i level₀ k₀ level k = i - k
 
--- src/pins.rt:30:21
 shared-slice-read-level : tie.Need-shared-slice-read-level Inv-loop μ-loop
 shared-slice-read-level c = omega (arith, image-length (c .before .before .args .image .now) (c .before .before .pre .0))
 
--- src/pins.rt:31:5
 loop-holds : tie.Need-loop-holds Inv-loop μ-loop
 unfolding ei chainIn
 loop-holds c = (omega arith, refl)
 
--- src/pins.rt:32:9
 eo-at-requires : tie.Need-eo-at-requires Inv-loop μ-loop
 eo-at-requires c κs = (c .before .before .before .before .pre .0, omega (arith, c .before .before .before .before .pre .1))
 
--- src/pins.rt:31:9
 add-k : tie.Need-add-k Inv-loop μ-loop
 add-k c = omega (arith, c .before .before .before .before .before .pre .1)
 
--- src/pins.rt:31:5
 loop-less : tie.Need-loop-less Inv-loop μ-loop
 loop-less c = omega arith
 
--- src/pins.rt:31:5
 loop-again : tie.Need-loop-again Inv-loop μ-loop
 unfolding ei
 loop-again c = (omega arith, c .eo-at .ensures ∙ ap (λ (level : Bool). eoAt level (chainIn (c .before .before .before .before .before .args .image .now)) (c .before .before .loop .k)) (c .before .before .loop .inv .1) ∙ ap (ei (chainIn (c .before .before .before .before .before .args .image .now))) (sym (add-one (c .before .before .loop .k))))
 
--- src/pins.rt:25:1
 returns : tie.Need-returns Inv-loop μ-loop
 returns c = let at-i : c .before .loop .k ≡ c .before .before .before .before .args .i = omega arith in c .before .loop .inv .1 ∙ ap (ei (chainIn (c .before .before .before .before .args .image .now))) at-i
 

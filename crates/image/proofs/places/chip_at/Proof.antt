@@ -1,48 +1,40 @@
+-- `image::places::chip_at` meets its contract.
+-- Assumes nothing.
 use mathlib.Core.List.{List}
-use mathlib.Core.Path.{_≡_, sym, ap, _∙_}
+use mathlib.Core.Path.{sym, ap, _∙_}
 use Prim.Native.Nat.{ℕ, _+_, _-_, _*_}
 use native.Mathlib.Omega.{arith}
 use lib.ListN.{length, drop, length-take, length-drop}
 use lib.Seq.{take-all, drop-drop}
+use borrow.Author.Needs.{needs}
 use Rattle.chip.specs.Fields.{noChip}
 use Rattle.image.specs.Reading.{chipIn, chainIn}
 use Rattle.image.proofs.OneToOne.{image-length}
 use Rattle.image.proofs.Records.{chips-at}
-use borrow.Author.Needs.{needs}
 use Rattle.image.proofs.places.chip_at.Statement.{statement}
 use Rattle.image.proofs.places.chip_at.Tie as tie
-use Rattle.image.proofs.places.chip_at.Reads as reads
-use Rattle.image.proofs.places.chip_at.Lts as lts
-use Rattle.image.proofs.reading.chip_in.Reads as chip-in-reads
 
--- src/places.rt:23:19
 mul-at : tie.Need-mul-at
 mul-at c = search needs
 
--- src/places.rt:23:14
 add-at : tie.Need-add-at
 add-at c = search needs
 
--- src/places.rt:24:13
 sub-chip-in : tie.Need-sub-chip-in
 sub-chip-in c = omega (arith, image-length (c .before .args .image .now) (c .before .pre .0), c .before .pre .1)
 
--- src/places.rt:24:13
 part-chip-in-start : tie.Need-part-chip-in-start
 part-chip-in-start c = omega (arith, image-length (c .before .args .image .now) (c .before .pre .0), c .before .pre .1)
 
--- src/places.rt:24:13
 part-chip-in-end : tie.Need-part-chip-in-end
 part-chip-in-end c = search needs
 
--- src/places.rt:24:5
 chip-in-requires : tie.Need-chip-in-requires
 chip-in-requires c κs =
     let at : ℕ = 16 + 64 * c .before .before .args .i in
     let b : List ℕ = c .before .before .args .image .now in
     omega (arith, length-take (length b - at) (drop at b), length-drop at b, image-length b (c .before .before .pre .0), c .before .before .pre .1)
 
--- src/places.rt:18:1
 returns : tie.Need-returns
 unfolding chainIn
 returns c =

@@ -1,57 +1,45 @@
+-- `image::places::count_event` meets its contract.
+-- Assumes nothing.
 use mathlib.Core.List.{List}
-use mathlib.Core.Path.{_≡_, sym, ap, _∙_}
+use mathlib.Core.Path.{_≡_, ap, _∙_}
 use Prim.Native.Nat.{ℕ, _+_, _%_, _/_}
 use native.Mathlib.Omega.{arith}
-use lib.ListN.{length, set, length-set}
+use lib.ListN.{set, length-set}
+use borrow.Author.Needs.{needs}
 use Rattle.chain.specs.Events.{counted}
 use Rattle.image.specs.Reading.{chainIn, isImage}
 use Rattle.image.proofs.OneToOne.{image-length}
 use Rattle.image.proofs.Parts.{event-set}
-use borrow.Author.Needs.{needs}
 use Rattle.image.proofs.places.count_event.Statement.{statement}
 use Rattle.image.proofs.places.count_event.Tie as tie
-use Rattle.image.proofs.places.count_event.Reads as reads
-use Rattle.image.proofs.places.count_event.Lts as lts
-use Rattle.image.proofs.reading.event_of.Reads as event-of-reads
-use Rattle.std.proofs.num.wrapping_add_u16.Reads as wrapping-add-u16-reads
 
--- src/places.rt:73:53
 slice-read-event-of : tie.Need-slice-read-event-of
 slice-read-event-of c = omega (arith, image-length (c .before .before .args .image .now) (c .before .before .pre))
 
--- src/places.rt:73:63
 slice-read-event-of-2 : tie.Need-slice-read-event-of-2
 slice-read-event-of-2 c = omega (arith, image-length (c .before .before .before .args .image .now) (c .before .before .before .pre))
 
--- src/places.rt:73:44
 event-of-requires : tie.Need-event-of-requires
 event-of-requires c κs = search needs
 
--- src/places.rt:73:9
 wrapping-add-u16-requires : tie.Need-wrapping-add-u16-requires
 wrapping-add-u16-requires c κs = search needs
 
--- src/places.rt:74:16
 cast-image : tie.Need-cast-image
 cast-image c = search needs
 
--- src/places.rt:74:5
 slice-write-image : tie.Need-slice-write-image
 slice-write-image c = omega (arith, image-length (c .before .before .before .before .before .args .image .now) (c .before .before .before .before .before .pre))
 
--- src/places.rt:75:16
 cast-image-2 : tie.Need-cast-image-2
 cast-image-2 c = search needs
 
--- src/places.rt:75:5
 slice-write-image-2 : tie.Need-slice-write-image-2
 slice-write-image-2 c = omega (arith, image-length (c .before .before .before .before .before .args .image .now) (c .before .before .before .before .before .pre), length-set (c .before .before .before .before .before .args .image .now) 3 (c .wrapping-add-u16 .result % 256))
 
--- src/places.rt:68:1
 same-length : tie.Need-same-length
 same-length c = search needs
 
--- src/places.rt:68:1
 returns : tie.Need-returns
 unfolding counted chainIn
 returns c =

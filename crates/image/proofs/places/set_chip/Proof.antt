@@ -1,9 +1,11 @@
+-- `image::places::set_chip` meets its contract.
+-- Assumes nothing.
 use mathlib.Core.List.{List}
-use mathlib.Core.Path.{_≡_, sym, ap, _∙_}
+use mathlib.Core.Path.{_≡_, ap, _∙_}
 use Prim.Native.Nat.{ℕ, _+_, _-_, _*_}
 use native.Mathlib.Omega.{arith}
 use borrow.Rule.Slice.PartMut.{putMid}
-use lib.ListN.{length}
+use borrow.Author.Needs.{needs}
 use Rattle.image.specs.Layout.{chipRecord, over}
 use Rattle.image.specs.OneToOne.{WholeChip}
 use Rattle.image.specs.Reading.{chainIn, isImage}
@@ -11,46 +13,33 @@ use Rattle.image.proofs.Lists.{part-over}
 use Rattle.image.proofs.OneToOne.{image-length}
 use Rattle.image.proofs.Parts.{chip-set}
 use Rattle.image.proofs.Records.{record-length}
-use borrow.Author.Needs.{needs}
 use Rattle.image.proofs.places.set_chip.Statement.{statement}
 use Rattle.image.proofs.places.set_chip.Tie as tie
-use Rattle.image.proofs.places.set_chip.Reads as reads
-use Rattle.image.proofs.places.set_chip.Lts as lts
-use Rattle.image.proofs.writing.put_chip.Reads as put-chip-reads
 
--- src/places.rt:34:19
 mul-at : tie.Need-mul-at
 mul-at c = search needs
 
--- src/places.rt:34:14
 add-at : tie.Need-add-at
 add-at c = search needs
 
--- src/places.rt:35:15
 add-end : tie.Need-add-end
 add-end c = search needs
 
--- src/places.rt:36:14
 sub-put-chip : tie.Need-sub-put-chip
 sub-put-chip c = search needs
 
--- src/places.rt:36:14
 part-put-chip-start : tie.Need-part-put-chip-start
 part-put-chip-start c = search needs
 
--- src/places.rt:36:14
 part-put-chip-end : tie.Need-part-put-chip-end
 part-put-chip-end c = omega (arith, image-length (c .before .args .image .now) (c .before .pre .0), c .before .pre .1)
 
--- src/places.rt:36:5
 put-chip-requires : tie.Need-put-chip-requires
 put-chip-requires c κs = search needs
 
--- src/places.rt:28:1
 same-length : tie.Need-same-length
 same-length c = search needs
 
--- src/places.rt:28:1
 whole : (c : tie.Start) → WholeChip (c .args .chip)
 whole c = record { eight-codes = search needs; all-memory = search needs }
 

@@ -1,35 +1,27 @@
-use mathlib.Core.Path.{_≡_, sym, ap, _∙_}
+-- `image::places::set_response` meets its contract.
+-- Assumes nothing.
+use mathlib.Core.Path.{_≡_, ap, _∙_}
 use native.Mathlib.Omega.{arith}
-use lib.ListN.{length}
+use borrow.Author.Needs.{needs}
 use Rattle.image.specs.Layout.{responseBytes, over}
 use Rattle.image.specs.Reading.{chainIn, isImage}
 use Rattle.image.proofs.OneToOne.{image-length}
 use Rattle.image.proofs.Parts.{response-set}
-use borrow.Author.Needs.{needs}
 use Rattle.image.proofs.places.set_response.Statement.{statement}
 use Rattle.image.proofs.places.set_response.Tie as tie
-use Rattle.image.proofs.places.set_response.Reads as reads
-use Rattle.image.proofs.places.set_response.Lts as lts
-use Rattle.image.proofs.writing.put_bytes.Reads as put-bytes-reads
-use Rattle.image.proofs.writing.response_bytes.Reads as response-bytes-reads
 
--- src/places.rt:63:17
 response-bytes-requires : tie.Need-response-bytes-requires
 response-bytes-requires c κs = search needs
 
--- src/places.rt:64:25
 slice-aggregate-put-bytes : tie.Need-slice-aggregate-put-bytes
 slice-aggregate-put-bytes c = search needs
 
--- src/places.rt:64:5
 put-bytes-requires : tie.Need-put-bytes-requires
 put-bytes-requires c κs = omega (arith, image-length (c .before .before .before .before .args .image .now) (c .before .before .before .before .pre))
 
--- src/places.rt:58:1
 same-length : tie.Need-same-length
 same-length c = search needs
 
--- src/places.rt:58:1
 returns : tie.Need-returns
 returns c =
     let held = response-set (c .before .before .before .before .before .before .before .args .image .now) (c .before .before .before .before .before .before .before .args .response) (c .before .before .before .before .before .before .before .pre) in

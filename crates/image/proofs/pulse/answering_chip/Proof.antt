@@ -1,10 +1,12 @@
-use borrow.Author.Needs.{needs}
-use lib.ListN.{getD}
+-- `image::pulse::answering_chip` meets its contract.
+-- Assumes nothing.
 use mathlib.Core.Bool.{Bool, false, _&&_}
 use mathlib.Core.Path.{_≡_, refl, ap, sym, _∙_}
 use Prim.Native.Nat.{ℕ, _-_, _≤_, _<_}
 use native.Mathlib.Numerals.{add-one}
 use native.Mathlib.Omega.{arith}
+use lib.ListN.{getD}
+use borrow.Author.Needs.{needs}
 use borrow.Author.Count.{below-none, below-more}
 use Rattle.bits.proofs.Below.{first-is, first-none}
 use Rattle.chip.specs.Status.{gintActive}
@@ -16,11 +18,6 @@ use Rattle.image.specs.Reading.{chainIn}
 use Rattle.image.proofs.OneToOne.{image-length}
 use Rattle.image.proofs.pulse.answering_chip.Statement.{statement}
 use Rattle.image.proofs.pulse.answering_chip.Tie as tie
-use Rattle.image.proofs.pulse.answering_chip.Reads as reads
-use Rattle.image.proofs.pulse.answering_chip.Lts as lts
-use Rattle.chip.proofs.Chip.gint_active.Reads as gint-active-reads
-use Rattle.image.proofs.pins.eo_at.Reads as eo-at-reads
-use Rattle.image.proofs.places.chip_at.Reads as chip-at-reads
 
 abbrev Inv-loop : tie.InvT-loop
 Inv-loop image count ei₀ i₀ level i =
@@ -29,29 +26,23 @@ Inv-loop image count ei₀ i₀ level i =
 abbrev μ-loop : tie.MeasureT-loop
 μ-loop image count ei₀ i₀ level i = getD image 0 0 - i
 
--- src/pulse.rt:29:17
 shared-slice-read-count : tie.Need-shared-slice-read-count Inv-loop μ-loop
 shared-slice-read-count c = omega (arith, image-length (c .before .before .args .image .now) (c .before .before .pre .0))
 
--- src/pulse.rt:30:18
 shared-slice-read-ei : tie.Need-shared-slice-read-ei Inv-loop μ-loop
 shared-slice-read-ei c = omega (arith, image-length (c .before .before .before .args .image .now) (c .before .before .before .pre .0))
 
--- src/pulse.rt:31:5
 loop-holds : tie.Need-loop-holds Inv-loop μ-loop
 unfolding ei chainIn
 loop-holds c = (omega arith, refl, below-none _)
 
--- src/pulse.rt:32:13
 chip-at-requires : tie.Need-chip-at-requires Inv-loop μ-loop
 unfolding chainIn
 chip-at-requires c κs = let within : getD (c .before .before .before .before .before .args .image .now) 0 0 ≤ 8 = count-le (chainIn (c .before .before .before .before .before .args .image .now)) (c .before .before .before .before .before .pre .1) in (c .before .before .before .before .before .pre .0, omega (arith, within))
 
--- src/pulse.rt:33:17
 gint-active-requires : tie.Need-gint-active-requires Inv-loop μ-loop
 gint-active-requires c κs = search needs
 
--- src/pulse.rt:34:13
 -- what the code tests at a chip is whether that chip answers
 test : (c : tie.After-gint-active Inv-loop μ-loop) →
     ei (chainIn (c .before .before .before .before .before .before .before .args .image .now)) (c .before .before .before .loop .i) && gintActive (chipAt (chainIn (c .before .before .before .before .before .before .before .args .image .now)) (c .before .before .before .loop .i)) ≡ (c .before .before .before .loop .ei && c .gint-active .result)
@@ -63,21 +54,17 @@ returns c =
     sym (first-is (getD (c .before .before .before .before .before .before .before .before .args .image .now) 0 0) (λ k. ei (chainIn (c .before .before .before .before .before .before .before .before .args .image .now)) k && gintActive (chipAt (chainIn (c .before .before .before .before .before .before .before .before .args .image .now)) k)) (c .before .before .before .before .loop .i) (c .before .before .before .loop-test .taken) (c .before .before .before .before .loop .inv .2)
     (test (c .before) ∙ c .if1 .taken))
 
--- src/pulse.rt:36:9
 eo-at-requires : tie.Need-eo-at-requires Inv-loop μ-loop
 unfolding chainIn
 eo-at-requires c κs = let within : getD (c .before .before .before .before .before .before .before .before .args .image .now) 0 0 ≤ 8 = count-le (chainIn (c .before .before .before .before .before .before .before .before .args .image .now)) (c .before .before .before .before .before .before .before .before .pre .1) in (c .before .before .before .before .before .before .before .before .pre .0, omega (arith, within))
 
--- src/pulse.rt:31:9
 add-i : tie.Need-add-i Inv-loop μ-loop
 unfolding chainIn
 add-i c = let within : getD (c .before .before .before .before .before .before .before .before .before .args .image .now) 0 0 ≤ 8 = count-le (chainIn (c .before .before .before .before .before .before .before .before .before .args .image .now)) (c .before .before .before .before .before .before .before .before .before .pre .1) in omega (arith, within)
 
--- src/pulse.rt:31:5
 loop-less : tie.Need-loop-less Inv-loop μ-loop
 loop-less c = omega arith
 
--- src/pulse.rt:31:5
 loop-again : tie.Need-loop-again Inv-loop μ-loop
 unfolding ei
 loop-again c = (
@@ -86,7 +73,6 @@ loop-again c = (
   below-more _ _ (c .before .before .before .before .before .loop .inv .2) (test (c .before .before) ∙ c .before .if1 .left),
 )
 
--- src/pulse.rt:24:1
 returns-2 : tie.Need-returns-2 Inv-loop μ-loop
 unfolding answeringChip chainIn
 returns-2 c =

@@ -1,51 +1,42 @@
+-- `image::pulse::end_response` meets its contract.
+-- Assumes nothing.
 use mathlib.Core.Path.{_≡_, sym, ap, _∙_}
 use native.Mathlib.Nat.{lt-of-lt-of-le}
 use native.Mathlib.Omega.{arith}
+use borrow.Author.Needs.{needs}
 use Rattle.chain.proofs.Soundness.{count-le, under-way-parts}
 use Rattle.chain.specs.Pulse.{risen}
 use Rattle.chain.specs.declared.Response.the-variants.{UnderWay}
 use Rattle.image.specs.Reading.{responseIn, chainIn}
 use Rattle.image.proofs.OneToOne.{image-length}
-use borrow.Author.Needs.{needs}
 use Rattle.image.proofs.pulse.end_response.Statement.{statement}
 use Rattle.image.proofs.pulse.end_response.Tie as tie
-use Rattle.image.proofs.pulse.end_response.Reads as reads
-use Rattle.image.proofs.pulse.end_response.Lts as lts
-use Rattle.image.proofs.pulse.end_after.Reads as end-after-reads
-use Rattle.image.proofs.reading.response_in.Reads as response-in-reads
 
--- src/pulse.rt:168:9
 response-in-requires : tie.Need-response-in-requires
 response-in-requires c κs = omega (arith, image-length (c .before .before .args .image .now) (c .before .before .pre .0))
 
 enum-told : tie.Need-enum-told
 enum-told c = search needs
 
--- src/pulse.rt:171:28
 enum-known-response : tie.Need-enum-known-response
 enum-known-response c = search needs
 
--- src/pulse.rt:171:38
 end-after-requires : tie.Need-end-after-requires
 unfolding chainIn
 end-after-requires c κs =
     let is : responseIn (c .before .before .before .before .before .before .before .args .image .now) ≡ UnderWay (c .before .before .response .given .0 .0) = sym (c .before .before .before .before .response-in .ensures) ∙ c .before .before .response .given .1 in
     (c .before .before .before .before .before .before .before .pre .0, lt-of-lt-of-le (under-way-parts (chainIn (c .before .before .before .before .before .before .before .args .image .now)) (c .before .before .response .given .0 .0) (c .before .before .before .before .before .before .before .pre .1) is .chip) (count-le (chainIn (c .before .before .before .before .before .before .before .args .image .now)) (c .before .before .before .before .before .before .before .pre .1)))
 
--- src/pulse.rt:162:1
 same-length : tie.Need-same-length
 same-length c = search needs
 
--- src/pulse.rt:162:1
 returns : tie.Need-returns
 unfolding risen chainIn
 returns c = (c .before .before .before .before .before .pre .0, ap (λ r. risen r (chainIn (c .before .before .before .before .before .args .image .now))) (sym (sym (c .before .before .response-in .ensures) ∙ c .enum-told .given .1)))
 
--- src/pulse.rt:162:1
 same-length-2 : tie.Need-same-length-2
 same-length-2 c = search needs
 
--- src/pulse.rt:162:1
 returns-2 : tie.Need-returns-2
 unfolding risen chainIn
 returns-2 c = (c .before .before .end-after .ensures .0, c .before .before .end-after .ensures .1 ∙ ap (λ r. risen r (chainIn (c .before .before .before .before .before .before .before .before .before .before .args .image .now))) (sym (sym (c .before .before .before .before .before .before .before .response-in .ensures) ∙ c .before .before .before .before .before .response .given .1)))

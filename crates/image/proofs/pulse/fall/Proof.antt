@@ -1,40 +1,32 @@
+-- `image::pulse::fall` meets its contract.
+-- Assumes nothing.
 use mathlib.Core.Bool.{false}
 use mathlib.Core.Path.{_≡_, sym, ap, _∙_}
 use Prim.Native.Nat.{suc-le-suc}
 use native.Mathlib.Nat.{lt-of-lt-of-le}
 use native.Mathlib.Omega.{arith}
+use borrow.Author.Needs.{needs}
 use Rattle.chain.specs.Fields.{withIack}
 use Rattle.chain.specs.Pulse.{fallen, fallAnswer}
 use Rattle.chain.proofs.Soundness.{count-le, under-way-parts, next-left}
 use Rattle.chain.specs.declared.Response.the-variants.{Idle, UnderWay}
 use Rattle.image.specs.Reading.{responseIn, chainIn}
 use Rattle.image.proofs.OneToOne.{image-length}
-use borrow.Author.Needs.{needs}
 use Rattle.image.proofs.pulse.fall.Statement.{statement}
 use Rattle.image.proofs.pulse.fall.Tie as tie
-use Rattle.image.proofs.pulse.fall.Reads as reads
-use Rattle.image.proofs.pulse.fall.Lts as lts
-use Rattle.image.proofs.pulse.first_pulse.Reads as first-pulse-reads
-use Rattle.image.proofs.pulse.next_byte.Reads as next-byte-reads
-use Rattle.image.proofs.reading.response_in.Reads as response-in-reads
 
--- src/pulse.rt:138:9
 response-in-requires : tie.Need-response-in-requires
 response-in-requires c κs = omega (arith, image-length (c .before .before .args .image .now) (c .before .before .pre .0))
 
--- src/pulse.rt:140:39
 enum-told : tie.Need-enum-told
 enum-told c = search needs
 
--- src/pulse.rt:140:27
 first-pulse-requires : tie.Need-first-pulse-requires
 first-pulse-requires c κs = search needs
 
--- src/pulse.rt:141:28
 enum-known-response : tie.Need-enum-known-response
 enum-known-response c = search needs
 
--- src/pulse.rt:141:38
 next-byte-requires : tie.Need-next-byte-requires
 unfolding chainIn
 next-byte-requires c κs =
@@ -50,22 +42,18 @@ next-byte-requires c κs =
       ),
     )
 
--- src/pulse.rt:130:1
 same-length : tie.Need-same-length
 same-length c = search needs
 
--- src/pulse.rt:130:1
 returns : tie.Need-returns
 unfolding fallen fallAnswer chainIn
 returns c =
     let is : responseIn (c .before .before .before .before .before .before .before .before .before .args .image .now) ≡ Idle = sym (c .before .before .before .before .before .before .response-in .ensures) ∙ c .before .before .before .before .enum-told .given .1 in
     (c .before .before .first-pulse .ensures .0 ∙ ap (λ r. fallAnswer r (chainIn (c .before .before .before .before .before .before .before .before .before .args .image .now))) (sym is), (c .before .before .first-pulse .ensures .1 .0, c .before .before .first-pulse .ensures .1 .1 ∙ ap (λ r. withIack false (fallen r (chainIn (c .before .before .before .before .before .before .before .before .before .args .image .now)))) (sym is)))
 
--- src/pulse.rt:130:1
 same-length-2 : tie.Need-same-length-2
 same-length-2 c = search needs
 
--- src/pulse.rt:130:1
 returns-2 : tie.Need-returns-2
 unfolding fallen fallAnswer chainIn
 returns-2 c =

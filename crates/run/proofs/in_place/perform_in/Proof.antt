@@ -1,3 +1,5 @@
+-- `run::in_place::perform_in` meets its contract.
+-- Assumes nothing.
 use mathlib.Core.Bool.{true, false}
 use mathlib.Core.List.{List}
 use mathlib.Core.Path.{_≡_, refl, sym, ap, ap₂, _∙_}
@@ -7,26 +9,19 @@ use native.Mathlib.Omega.{arith}
 use lib.ListN.{length}
 use borrow.Author.Needs.{needs}
 use borrow.Author.Tests.{not-true, not-false}
+use Rattle.refusal.specs.Numbers.{isAccepted}
+use Rattle.refusal.specs.declared.Verdict.{Verdict}
 use Rattle.chain.specs.Answers.{verdictIn, handed}
 use Rattle.chain.specs.Sound.{sound}
 use Rattle.chain.specs.declared.Chain.{Chain}
 use Rattle.chain.specs.declared.Outcome.{Outcome}
 use Rattle.image.proofs.OneToOne.{image-length}
 use Rattle.image.specs.Reading.{chainIn, isImage}
-use Rattle.refusal.specs.Numbers.{isAccepted}
-use Rattle.refusal.specs.declared.Verdict.{Verdict}
 use Rattle.run.proofs.Steps.{stops, goes-on, noted-length, step-sound, step-same}
 use Rattle.run.specs.List.{listedAt}
-use Rattle.run.specs.Run.{Report, noted, runFrom, stopped, stepOf}
+use Rattle.run.specs.Run.{noted, runFrom, stopped, stepOf}
 use Rattle.run.proofs.in_place.perform_in.Statement.{statement}
 use Rattle.run.proofs.in_place.perform_in.Tie as tie
-use Rattle.run.proofs.in_place.perform_in.Reads as reads
-use Rattle.run.proofs.in_place.perform_in.Lts as lts
-use Rattle.chain.proofs.Answer.verdict.Reads as verdict-reads
-use Rattle.refusal.proofs.Verdict.is_accepted.Reads as is-accepted-reads
-use Rattle.run.proofs.Listed.at.Reads as at-reads
-use Rattle.run.proofs.events.note.Reads as note-reads
-use Rattle.run.proofs.in_place.step_in.Reads as step-in-reads
 
 abbrev Inv-loop : tie.InvT-loop
 Inv-loop image₀ bytes count results₀ n₀ image results n =
@@ -35,35 +30,27 @@ Inv-loop image₀ bytes count results₀ n₀ image results n =
 abbrev μ-loop : tie.MeasureT-loop
 μ-loop image₀ bytes count results₀ n₀ image results n = count - n
 
--- src/in_place.rt:51:5
 loop-holds : tie.Need-loop-holds Inv-loop μ-loop
 loop-holds c = (omega arith, c .before .before .before .pre .0, c .before .before .before .pre .1 .0, refl, ap (λ left. runFrom left (c .before .before .before .args .bytes .now) 0 (chainIn (c .before .before .before .args .image .now)) (c .before .before .before .args .results .now)) (sym (sub-zero _)))
 
--- src/in_place.rt:52:37
 at-requires : tie.Need-at-requires Inv-loop μ-loop
 at-requires c κs = omega (arith, c .before .before .before .before .before .before .pre .1 .1 .0)
 
--- src/in_place.rt:52:13
 step-in-requires : tie.Need-step-in-requires Inv-loop μ-loop
 step-in-requires c κs = (c .before .before .before .loop .inv .1, c .before .before .before .loop .inv .2)
 
--- src/in_place.rt:53:13
 verdict-requires : tie.Need-verdict-requires Inv-loop μ-loop
 verdict-requires c κs = search needs
 
--- src/in_place.rt:54:13
 is-accepted-requires : tie.Need-is-accepted-requires Inv-loop μ-loop
 is-accepted-requires c κs = search needs
 
--- src/in_place.rt:55:13
 same-length : tie.Need-same-length Inv-loop μ-loop
 same-length c = image-length (c .before .before .before .before .before .step-in .last .0) (c .before .before .before .before .before .step-in .ensures .1 .0) ∙ sym (image-length (c .before .before .before .before .before .before .before .before .before .before .before .before .before .args .image .now) (c .before .before .before .before .before .before .before .before .before .before .before .before .before .pre .0))
 
--- src/in_place.rt:55:13
 same-length-2 : tie.Need-same-length-2 Inv-loop μ-loop
 same-length-2 c = c .before .before .before .before .before .before .before .before .before .loop .inv .3
 
--- src/in_place.rt:55:13
 returns : tie.Need-returns Inv-loop μ-loop
 returns c =
     let bytes : List ℕ = c .before .before .before .before .before .before .before .before .before .before .before .before .before .args .bytes .now in
@@ -86,19 +73,15 @@ returns c =
       ),
     )
 
--- src/in_place.rt:60:9
 note-requires : tie.Need-note-requires Inv-loop μ-loop
 note-requires c κs = omega (arith, c .before .before .before .before .before .before .before .before .before .before .before .before .before .before .pre .1 .1 .1, c .before .before .before .before .before .before .before .before .before .before .loop .inv .3)
 
--- src/in_place.rt:61:9
 add-n : tie.Need-add-n Inv-loop μ-loop
 add-n c = omega (arith, c .before .before .before .before .before .before .before .before .before .before .before .before .before .before .before .before .before .pre .1 .1 .0)
 
--- src/in_place.rt:51:5
 loop-less : tie.Need-loop-less Inv-loop μ-loop
 loop-less c = omega arith
 
--- src/in_place.rt:51:5
 loop-again : tie.Need-loop-again Inv-loop μ-loop
 loop-again c =
     let bytes : List ℕ = c .before .before .before .before .before .before .before .before .before .before .before .before .before .before .before .before .before .args .bytes .now in
@@ -119,15 +102,12 @@ loop-again c =
           ∙ ap₂ (runFrom (c .before .before .before .before .before .before .before .before .before .before .before .before .before .before .before .before .before .args .count - (n + 1)) bytes (n + 1)) (sym left) noted-here,
     )
 
--- src/in_place.rt:39:1
 same-length-3 : tie.Need-same-length-3 Inv-loop μ-loop
 same-length-3 c = image-length (c .before .loop .image) (c .before .loop .inv .1) ∙ sym (image-length (c .before .before .before .before .before .args .image .now) (c .before .before .before .before .before .pre .0))
 
--- src/in_place.rt:39:1
 same-length-4 : tie.Need-same-length-4 Inv-loop μ-loop
 same-length-4 c = c .before .loop .inv .3
 
--- src/in_place.rt:39:1
 returns-2 : tie.Need-returns-2 Inv-loop μ-loop
 unfolding runFrom
 returns-2 c =

@@ -1,33 +1,26 @@
+-- `run::in_place::run_in` meets its contract.
+-- Assumes nothing.
 use mathlib.Core.Path.{_≡_, refl, sym, ap, _∙_}
 use native.Mathlib.Omega.{arith}
+use borrow.Author.Needs.{needs}
 use Rattle.image.specs.Reading.{chainIn}
 use Rattle.run.proofs.Before.{none-before, before-room, before-sound}
-use Rattle.run.specs.Run.{Report, runFrom, beforeAny, runOf}
-use borrow.Author.Needs.{needs}
+use Rattle.run.specs.Run.{runFrom, beforeAny, runOf}
 use Rattle.run.proofs.in_place.run_in.Statement.{statement}
 use Rattle.run.proofs.in_place.run_in.Tie as tie
-use Rattle.run.proofs.in_place.run_in.Reads as reads
-use Rattle.run.proofs.in_place.run_in.Lts as lts
-use Rattle.run.proofs.events.least.Reads as least-reads
-use Rattle.run.proofs.in_place.perform_in.Reads as perform-in-reads
 
--- src/in_place.rt:79:30
 least-requires : tie.Need-least-requires
 least-requires c κs = search needs
 
--- src/in_place.rt:79:5
 perform-in-requires : tie.Need-perform-in-requires
 perform-in-requires c κs = (c .before .before .before .before .before .before .pre .0, (before-sound (chainIn (c .before .before .before .before .before .before .args .image .now)) (c .before .before .before .before .before .before .args .bytes .now) (c .before .before .before .before .before .before .args .results .now) (c .before .before .before .before .before .before .pre .1), (omega (arith, c .before .least .ensures), omega (arith, c .before .least .ensures, before-room (chainIn (c .before .before .before .before .before .before .args .image .now)) (c .before .before .before .before .before .before .args .bytes .now) (c .before .before .before .before .before .before .args .results .now) (c .before .before .before .before .before .before .pre .1)))))
 
--- src/in_place.rt:70:1
 same-length : tie.Need-same-length
 same-length c = search needs
 
--- src/in_place.rt:70:1
 same-length-2 : tie.Need-same-length-2
 same-length-2 c = search needs
 
--- src/in_place.rt:70:1
 returns : tie.Need-returns
 returns c =
     let is : runFrom (c .before .before .before .before .before .before .least .result) (c .before .before .before .before .before .before .before .before .before .before .before .args .bytes .now) 0 (chainIn (c .before .before .before .before .before .before .before .before .before .before .before .args .image .now)) (c .before .before .before .before .before .before .before .before .before .before .before .args .results .now) ≡ runOf (chainIn (c .before .before .before .before .before .before .before .before .before .before .before .args .image .now)) (c .before .before .before .before .before .before .before .before .before .before .before .args .bytes .now) (c .before .before .before .before .before .before .before .before .before .before .before .args .limit) (c .before .before .before .before .before .before .before .before .before .before .before .args .results .now) =

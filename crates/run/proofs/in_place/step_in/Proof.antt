@@ -1,34 +1,27 @@
+-- `run::in_place::step_in` meets its contract.
+-- Assumes nothing.
 use mathlib.Core.Path.{sym, ap, _∙_}
+use borrow.Author.Needs.{needs}
 use Rattle.image.specs.Reading.{chainIn}
 use Rattle.run.specs.Run.{stepOf}
-use borrow.Author.Needs.{needs}
 use Rattle.run.proofs.in_place.step_in.Statement.{statement}
 use Rattle.run.proofs.in_place.step_in.Tie as tie
-use Rattle.run.proofs.in_place.step_in.Reads as reads
-use Rattle.run.proofs.in_place.step_in.Lts as lts
-use Rattle.image.proofs.events.on.Reads as on-reads
 
--- src/in_place.rt:33:23
 enum-known-listed : tie.Need-enum-known-listed
 enum-known-listed c = search needs
 
--- src/in_place.rt:33:29
 on-requires : tie.Need-on-requires
 on-requires c κs = search needs
 
--- src/in_place.rt:34:44
 enum-told : tie.Need-enum-told
 enum-told c = search needs
 
--- src/in_place.rt:25:1
 same-length : tie.Need-same-length
 same-length c = search needs
 
--- src/in_place.rt:25:1
 returns : tie.Need-returns
 returns c = (c .before .before .on .ensures .0 ∙ ap (λ l. stepOf l (chainIn (c .before .before .before .before .before .before .before .before .args .image .now)) .answer) (sym (c .before .before .before .before .before .listed .given .1)), (c .before .before .on .ensures .1 .0, c .before .before .on .ensures .1 .1 ∙ ap (λ l. stepOf l (chainIn (c .before .before .before .before .before .before .before .before .args .image .now)) .chain) (sym (c .before .before .before .before .before .listed .given .1))))
 
--- src/in_place.rt:25:1
 returns-2 : tie.Need-returns-2
 returns-2 c = (ap (λ l. stepOf l (chainIn (c .before .before .before .args .image .now)) .answer) (sym (c .enum-told .given .1)), (c .before .before .before .pre .0, ap (λ l. stepOf l (chainIn (c .before .before .before .args .image .now)) .chain) (sym (c .enum-told .given .1))))
 
