@@ -14,7 +14,7 @@
 #include <stdlib.h>
 
 #ifndef EVENTS
-#define EVENTS 500000
+#define EVENTS 250000
 #endif
 
 #ifdef MODEL_ALONE
@@ -137,7 +137,7 @@ static void lists_in_one_call(struct source *r, unsigned long lists) {
 int main(int argc, char **argv) {
     struct source r = {9519};
     unsigned long events = argc > 1 ? strtoul(argv[1], NULL, 10) : EVENTS;
-    unsigned long lists = events / 200 + 1;
+    unsigned long lists = events / 60 + 1;
     unsigned images = (unsigned)(events / 20000) + 1;
     starts();
     events = event_by_event(&r, events);

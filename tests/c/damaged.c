@@ -3,7 +3,7 @@
 #include "lists.h"
 #include "seen.h"
 
-#define WHOLE 2 /* this many images have each byte changed to all other values, the rest to a few */
+#define WHOLE 1 /* this many images have each byte changed to all other values, the rest to a few */
 
 void damaged_images(struct source *r, unsigned images);
 
