@@ -1,5 +1,4 @@
-// The eight events as public calls: each takes any chain and any numbers, and hands back a new chain by value. `on_sound` is for a run, which has
-// seen that its chain is sound.
+// The eight events as public calls: each takes any chain and any numbers, and hands back a new chain by value.
 ghost use mathlib.Core.Bool.{true};
 ghost use mathlib.Core.Path.{_≡_};
 ghost use Rattle.chain.specs.Events.{eventOf};
@@ -79,7 +78,7 @@ impl Chain {
     }
 
     // Any of the eight on a chain that is known to be sound.
-    pub fn on_sound(self, e: Event) -> Outcome
+    fn on_sound(self, e: Event) -> Outcome
         requires { ⌜ sound self ≡ true ⌝ }
         ensures { λ r. ⌜ r ≡ eventOf e self ⌝ }
     {

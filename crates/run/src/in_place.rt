@@ -1,15 +1,14 @@
-// A run on a chain's image where it lies: nothing but what an event changes is written. The C interface runs this way.
+// A run on a chain's image where it lies: an event writes the chip that it changes, and no chain is copied from event to event.
 ghost use mathlib.Core.Bool.{true};
 ghost use mathlib.Core.Path.{_≡_};
-ghost use Prim.Native.Nat.{_*_, _≤_, min};
+ghost use Prim.Native.Nat.{_+_, _*_, _≤_, min};
 ghost use lib.ListN.{length};
+ghost use Rattle.chain.specs.Answers.{handed};
 ghost use Rattle.chain.specs.Sound.{sound};
 ghost use Rattle.image.specs.Reading.{chainIn, isImage};
 ghost use Rattle.refusal.specs.Numbers.{isAccepted};
-ghost use Rattle.run.specs.Run.{stepOf, beforeAny, runFrom, runOf};
+ghost use Rattle.run.specs.Run.{stepOf, noted, beforeAny, runFrom, runOf};
 use crate::Listed;
-use crate::events::least;
-use crate::events::note;
 use chain::Answer;
 use image::events::on;
 use refusal::Refusal;
@@ -19,6 +18,13 @@ use refusal::Verdict;
 pub struct Reached {
     pub verdict: Verdict,
     pub accepted: usize,
+}
+
+// The smaller of two.
+fn least(a: usize, b: usize) -> usize
+    ensures { λ r. ⌜ r ≡ min a b ⌝ }
+{
+    if a < b { a } else { b }
 }
 
 // A listed event: 12, kind outside 1 to 8, before the event's own refusals.
@@ -33,6 +39,16 @@ fn step_in(image: &mut [u8], listed: Listed) -> Answer
         Listed::Known(e) => on(image, e),
         Listed::Unknown => Answer::Refused(Refusal::UnknownKind),
     }
+}
+
+// The n-th accepted event's two bytes: 1 and the byte driven or read, or 0 and 0.
+fn note(results: &mut [u8], n: usize, answer: Answer)
+    requires { ⌜ 2 * n + 2 ≤ length (now results) ⌝ }
+    ensures { λ _. ⌜ now (results .exit) ≡ noted n (handed answer) (now (results .entry)) ⌝ }
+{
+    let first = 2 * n;
+    results[first] = answer.drove();
+    results[first + 1] = answer.byte();
 }
 
 // The first so many events of the list.

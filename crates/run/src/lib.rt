@@ -1,6 +1,6 @@
 // Runs: lists of events as lent bytes, applied to one chain up to a limit, the end or the first refusal.
-// The records and the public calls, `run` and what a run takes before any event, stand here. What stands behind it asks for what it has checked.
-mod events;
+// The records and the public call, `run`, stand here. The run itself works on an image where it lies (in_place.rt), for whoever holds one: it asks for what
+// `before_any` has told.
 pub mod in_place;
 mod list;
 
@@ -13,10 +13,12 @@ ghost use Rattle.refusal.specs.Numbers.{firstOf};
 ghost use Rattle.refusal.specs.declared.Refusal.the-variants.{BrokenEvent, ShortResults};
 ghost use Rattle.chain.specs.Refusals.{notSound};
 ghost use Rattle.run.specs.Run.{runOf};
-use crate::events::least;
-use crate::events::perform;
+use crate::in_place::run_in;
 use chain::Chain;
 use chain::Event;
+use image::LENGTH;
+use image::reading::chain_in;
+use image::writing::put_chain;
 use refusal::Refusal;
 use refusal::Verdict;
 
@@ -38,13 +40,28 @@ pub fn run(chain: Chain, bytes: &[u8], limit: usize, results: &mut [u8]) -> Ran
     ensures { λ r. ⌜ r ≡ runOf chain (now (bytes .entry)) limit (now (results .entry)) .ran ⌝ }
     ensures { λ _. ⌜ now (results .exit) ≡ runOf chain (now (bytes .entry)) limit (now (results .entry)) .results ⌝ }
 {
-    let listed = bytes.len() / 4;
-    let count = least(limit, listed);
     let verdict = before_any(chain, bytes.len(), results.len());
     if !verdict.is_accepted() {
         return Ran::stopped(verdict, 0, chain);
     }
-    perform(chain, bytes, count, results)
+    let mut image = [0u8; LENGTH];
+    put_chain(&mut image, chain);
+    let reached = run_in(&mut image, bytes, limit, results);
+    let last = reached.verdict;
+    Ran::stopped(last, reached.accepted, chain_in(&image))
+}
+
+impl Ran {
+    // What is handed back where a run stops.
+    fn stopped(verdict: Verdict, accepted: usize, chain: Chain) -> Ran
+        ensures { λ r. ⌜ r ≡ record { verdict = verdict; accepted = accepted; chain = chain } ⌝ }
+    {
+        Ran {
+            verdict: verdict,
+            accepted: accepted,
+            chain: chain,
+        }
+    }
 }
 
 // 1, 10 and 11 come before any event: for a list of so many bytes, and so much room for results.
