@@ -1,7 +1,8 @@
 /*
  * The proved run and the C model's run over the same long list of events, in turns within one process.
  *
- * Both do the same job: the image is looked through, every event gets its verdict and its two result bytes, and the image is written back.
+ * Both do the same job: the image is looked through, every event gets its verdict and its two result bytes, and the image is then that of the
+ * chain after the last event: the model writes it back, the proved run has changed it where it lies.
  * Times are per event and the median of the rounds. The argument, if there is one, is the number of rounds.
  */
 #include "lists.h"

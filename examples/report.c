@@ -57,6 +57,10 @@ int main(void) {
     /* A refusal of the image, the lengths or the room comes before any event, and leaves *accepted as it was. */
     accepted = 0;
     unsigned number = am9519a_run(image, sizeof image, events, sizeof events, SIZE_MAX, results, sizeof results, &accepted);
+    if (number == AM9519A_REFUSED_CHAIN || number == AM9519A_REFUSED_EVENTS || number == AM9519A_REFUSED_ROOM) {
+        printf("run refused %u\n", number);
+        return 1;
+    }
     if (number != AM9519A_ACCEPTED) {
         printf("event %zu refused %u\n", accepted + 1, number);
         return 1;

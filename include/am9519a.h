@@ -6,8 +6,9 @@
  *     rt staticlib am9519a
  *
  * It proves the library and writes target/staticlib/libam9519a.a, for x86-64 Linux. Compile your
- * program with -Iinclude and link that archive after your own files. It needs no other library,
- * keeps no state, allocates nothing and calls nothing of yours: any thread may call it at any time.
+ * program with -Iinclude and link that archive after your own files. It needs nothing but the
+ * C library's memcpy and its kind, keeps no state, allocates nothing and calls nothing of yours: any thread may call it at any time, each with
+ * buffers of its own.
  */
 #ifndef AM9519A_H
 #define AM9519A_H
@@ -64,7 +65,7 @@ uint8_t am9519a_candidate(uint8_t irr, uint8_t imr, uint8_t isr, uint8_t mode, u
  * In all calls
  *   - a buffer is a pointer and then its length in bytes; the pointer must be valid for that length, never null, not even for a length
  *     of 0, for which any other pointer will do,
- *   - a buffer that is written, and *accepted, must not overlap any other buffer of the call,
+ *   - a buffer that is written, and *accepted, must not overlap any other buffer of the call, and nobody else may use it during the call,
  *   - the number handed back is 0, or that of the refusal: of several, the lowest, except where a call says otherwise,
  *   - a refused call writes nothing, am9519a_run apart when an event is what it refuses. Bytes of a longer buffer past those named are
  *     left as they are.

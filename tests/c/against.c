@@ -1,29 +1,26 @@
 /*
  * The proved chain against the plain C model, over random lists of events from a fixed seed.
  *
- * Starts of every fill; lists event by event, with the whole image, the result and two views compared after each; lists in one call, with
+ * Starts of every fill; lists event by event, with the whole image, the result and the views of all chips compared after each; lists in one call, with
  * limits and lengths that fit and do not; damaged images. The argument, if there is one, is the number of events.
  *
  * Compiled with MODEL_ALONE it makes the same lists and gives the same digest without the library.
  */
 #include "calls.h"
+#include "damaged.h"
 #include "lists.h"
 #include "seen.h"
 
 #include <stdio.h>
 #include <stdlib.h>
 
-#ifndef EVENTS
-#define EVENTS 250000
-#endif
+#define EVENTS 120000
 
 #ifdef MODEL_ALONE
 #define FOUND "nothing compared"
 #else
 #define FOUND "no difference"
 #endif
-
-void damaged_images(struct source *r, unsigned images); /* damaged.c */
 
 static void starts(void) {
     static const uint8_t counts[] = {0, 1, 2, 3, 4, 5, 6, 7, 8, 9, 16, 128, 255};
@@ -54,7 +51,7 @@ static void begin(struct source *r, struct chain *s) {
     }
 }
 
-/* Each step shows one chip, or asks for the first one that is not there. */
+/* After each step all chips are shown, and the first one that is not there is asked for. */
 static unsigned long event_by_event(struct source *r, unsigned long events) {
     unsigned long done = 0;
     part = "events one by one";
@@ -66,9 +63,8 @@ static unsigned long event_by_event(struct source *r, unsigned long events) {
             uint8_t event[4], result[2];
             struct chain before = s;
             random_event(r, &s, (unsigned)list_position, event);
-            if (step(&s, event, (uint8_t)(list_position % (s.count + 1u)), result) == AM9519A_ACCEPTED) seen_event(&before, &s, event);
-            if (list_position % 32 == 31)
-                for (unsigned i = 0; i < s.count; i++) views(AM9519A_IMAGE, (uint8_t)i, AM9519A_REGISTERS, AM9519A_PINS);
+            if (step(&s, event, (uint8_t)(list_position % s.count), result) == AM9519A_ACCEPTED) seen_event(&before, &s, event);
+            for (unsigned i = 0; i <= s.count; i++) views(AM9519A_IMAGE, (uint8_t)i, AM9519A_REGISTERS, AM9519A_PINS);
         }
     }
     return done;
@@ -137,8 +133,8 @@ static void lists_in_one_call(struct source *r, unsigned long lists) {
 int main(int argc, char **argv) {
     struct source r = {9519};
     unsigned long events = argc > 1 ? strtoul(argv[1], NULL, 10) : EVENTS;
-    unsigned long lists = events / 60 + 1;
-    unsigned images = (unsigned)(events / 20000) + 1;
+    unsigned long lists = events / 30 + 1;
+    unsigned images = (unsigned)(events / 20000) + 2;
     starts();
     events = event_by_event(&r, events);
     lists_in_one_call(&r, lists);

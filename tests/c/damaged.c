@@ -1,11 +1,10 @@
 /* Images with one byte changed, and images too short or too long: refused as a whole, or the sound chain that they then hold. */
 #include "calls.h"
+#include "damaged.h"
 #include "lists.h"
 #include "seen.h"
 
-#define WHOLE 1 /* this many images have each byte changed to all other values, the rest to a few */
-
-void damaged_images(struct source *r, unsigned images);
+#define WHOLE 2 /* this many images have each byte changed to all other values, the rest to a few: first one without a response, then one with */
 
 /* A chain some events away from where random_chain or a start puts it. */
 static void worked_chain(struct source *r, struct chain *s) {
@@ -45,7 +44,8 @@ void damaged_images(struct source *r, unsigned images) {
     for (list_number = 0; list_number < images; list_number++) {
         struct chain s;
         uint8_t image[AM9519A_IMAGE], events[8];
-        worked_chain(r, &s);
+        do worked_chain(r, &s);
+        while (list_number < WHOLE && s.response.under_way != list_number);
         model_image(&s, image);
         accepted_event(r, &s, 99, events);
         accepted_event(r, &s, 99, events + 4);

@@ -7,7 +7,7 @@ use crate::Response;
 
 impl Response {
     // Whether no response is under way.
-    pub fn is_idle(self) -> bool
+    pub(crate) fn is_idle(self) -> bool
         ensures { λ r. ⌜ r ≡ isIdle self ⌝ }
     {
         match self {

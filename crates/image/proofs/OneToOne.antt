@@ -51,7 +51,7 @@ read-back s whole =
     ∙ ap (with-these (s .chips) (s .enable) (s .iack) (s .response)) event
 
 -- the image of a chain has 528 bytes
-pub written-length : (s : Chain) → Whole s → length (imageOf s) ≡ 528
+written-length : (s : Chain) → Whole s → length (imageOf s) ≡ 528
 unfolding imageOf
 written-length s whole =
     omega (arith, length-append (head s) (records (s .chips)), head-sixteen s, records-length (s .chips) (λ i h. whole .whole-chips i (subst (λ n. i < n) (whole .eight-chips) h)), whole .eight-chips)

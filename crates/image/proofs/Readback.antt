@@ -61,7 +61,7 @@ memory-back c rest whole =
     ∙ ap (take 32) (drop-at front (c .memory ++ rest) 32 long)
     ∙ take-at (c .memory) rest 32 (whole .all-memory)
 
-pub chip-back : (c : Chip) (rest : List ℕ) → WholeChip c → chipIn (chipRecord c ++ rest) ≡ c
+chip-back : (c : Chip) (rest : List ℕ) → WholeChip c → chipIn (chipRecord c ++ rest) ≡ c
 unfolding chipIn chipRecord
 chip-back c rest whole =
     let with-these : List ℕ → List ℕ → Destination → Chip =

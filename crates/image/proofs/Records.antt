@@ -75,7 +75,7 @@ record-written r c whole long =
     ∙ append-nil (a ++ c .counts ++ replicate 8 0 ++ c .memory)
 
 -- one record more
-pub records-more : (cs : List Chip) (i : ℕ) (d : Chip) → i < length cs → records (take (suc i) cs) ≡ records (take i cs) ++ chipRecord (getD cs i d)
+records-more : (cs : List Chip) (i : ℕ) (d : Chip) → i < length cs → records (take (suc i) cs) ≡ records (take i cs) ++ chipRecord (getD cs i d)
 records-more [] i d h = absurd (not-suc-le-zero h)
 records-more (c ∷ cs) zero d h = append-nil (chipRecord c)
 records-more (c ∷ cs) (suc i) d h =

@@ -1,4 +1,5 @@
-// The chain image: a chain as 528 bytes that a caller owns and lends, as C can hold it. Reading it, writing it, and which bytes are one.
+// The chain image: a chain as 528 bytes that a caller owns and lends, as C can hold it. Reading it, writing it, which bytes are one, and the eight events on it
+// where it lies: a run goes by these. What asks for an image or for a length is for whoever has seen that; `is_image` takes any bytes.
 pub mod events;
 mod pins;
 mod places;
@@ -7,7 +8,6 @@ pub mod reading;
 pub mod writing;
 
 ghost use mathlib.Core.Path.{_≡_};
-ghost use Prim.Native.Nat.{_≤_};
 ghost use lib.ListN.{length};
 ghost use Rattle.image.specs.Reading.{same, isImage};
 use crate::reading::chain_in;

@@ -1,4 +1,4 @@
-// What is worked out from an image where it lies: EI along the chain, and the status byte.
+// What is worked out from an image where it lies: EI along the chain, and the bytes of a status read and a data read.
 ghost use mathlib.Core.Bool.{true};
 ghost use mathlib.Core.Path.{_≡_};
 ghost use Prim.Native.Nat.{_<_};

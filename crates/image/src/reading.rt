@@ -43,7 +43,7 @@ fn memory_in(r: &[u8]) -> [u8; 32]
 }
 
 // The chip whose record begins here.
-pub fn chip_in(r: &[u8]) -> Chip
+pub(crate) fn chip_in(r: &[u8]) -> Chip
     requires { ⌜ 64 ≤ length (now r) ⌝ }
     ensures { λ c. ⌜ c ≡ chipIn (now (r .entry)) ⌝ }
 {

@@ -1,4 +1,5 @@
--- the chain's arrays have the lengths of their types
+-- `run::run` meets its contract.
+-- Assumes nothing.
 use mathlib.Core.Path.{_≡_, sym, ap, subst, _∙_}
 use Prim.Native.Nat.{ℕ, _<_}
 use lib.ListN.{length, length-map}
@@ -17,6 +18,7 @@ use Rattle.run.specs.declared.Ran.{Ran}
 use Rattle.run.proofs.run.Statement.{statement}
 use Rattle.run.proofs.run.Tie as tie
 
+-- the chain's arrays have the lengths of their types
 whole : (c : tie.Start) → Whole (c .args .chain)
 whole c =
     let owned = c .good .0 .1 .1 .1 .0 in

@@ -1,4 +1,5 @@
--- the verdict on the event is the verdict on what it is found to be
+-- `image::events::happens` meets its contract.
+-- Assumes nothing.
 use mathlib.Core.Path.{_≡_, ap, sym, _∙_}
 use borrow.Author.Needs.{needs}
 use Rattle.refusal.specs.declared.Verdict.the-variants.{Accepted}
@@ -12,6 +13,7 @@ use Rattle.image.specs.Reading.{chainIn}
 use Rattle.image.proofs.events.happens.Statement.{statement}
 use Rattle.image.proofs.events.happens.Tie as tie
 
+-- the verdict on the event is the verdict on what it is found to be
 event-is : (s : Chain) {e f : Event} → e ≡ f → verdictOf e s ≡ Accepted → verdictOf f s ≡ Accepted
 event-is s is v = ap (λ (e : Event). verdictOf e s) (sym is) ∙ v
 
