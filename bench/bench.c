@@ -137,8 +137,11 @@ static bool same_outcome(void) {
 
 int main(int argc, char **argv) {
     static const unsigned chains[] = {1, 3, 8};
-    unsigned rounds = argc > 1 ? (unsigned)strtoul(argv[1], NULL, 10) : 11;
-    if (rounds < 1 || rounds > ROUNDS_MOST) rounds = ROUNDS_MOST;
+    unsigned long rounds = argc > 1 ? strtoul(argv[1], NULL, 10) : 11;
+    if (rounds < 1 || rounds > ROUNDS_MOST) {
+        printf("bench: the number of rounds is 1 to %u\n", ROUNDS_MOST);
+        return 1;
+    }
     for (unsigned c = 0; c < sizeof chains / sizeof *chains; c++) {
         unsigned chips = chains[c];
         if (make_list(chips) != 0) {
@@ -146,14 +149,16 @@ int main(int argc, char **argv) {
             return 1;
         }
         for (unsigned round = 0; round < rounds; round++) {
-            timed(&proved, proved_call, chips, round);
+            /* They take turns at going first. */
+            if (round % 2 == 0) timed(&proved, proved_call, chips, round);
             timed(&model, model_call, chips, round);
+            if (round % 2 == 1) timed(&proved, proved_call, chips, round);
             if (!same_outcome()) {
                 printf("%u chips: the two differ\n", chips);
                 return 1;
             }
         }
-        double p = median(proved.time, rounds), m = median(model.time, rounds);
+        double p = median(proved.time, (unsigned)rounds), m = median(model.time, (unsigned)rounds);
         printf("%u chips: proved %.1f ns/event, C model %.1f ns/event, ratio %.2f\n", chips, p, m, p / m);
     }
     return 0;

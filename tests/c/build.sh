@@ -16,10 +16,13 @@ strict='-std=c11 -O2 -Wall -Wextra -Wconversion -Werror -Iinclude -Itests/c'
 sanitizers='-g -fsanitize=address,undefined -fno-sanitize-recover=all'
 
 mkdir -p "$out"
-rt staticlib am9519a >"$out/staticlib.log" 2>&1 || {
-    cat "$out/staticlib.log"
-    exit 1
-}
+# The archive is made anew where there is none, or where a crate has changed since.
+if [ ! -f "$archive" ] || [ -n "$(find crates crates.txt -newer "$archive" -print -quit)" ]; then
+    rt staticlib am9519a >"$out/staticlib.log" 2>&1 || {
+        cat "$out/staticlib.log"
+        exit 1
+    }
+fi
 
 machine=$(uname -m)
 if [ "$machine" != x86_64 ]; then

@@ -3,13 +3,12 @@
 use mathlib.Core.Bool.{Bool, true, false, not, cond}
 use mathlib.Core.List.{List, [], _∷_, _++_}
 use mathlib.Core.Path.{_≡_, refl, ap, sym, subst, _∙_}
-use Prim.Native.Nat.{ℕ, _+_, _-_, _%_, _/_, _≤_, _<_, min}
+use Prim.Native.Nat.{ℕ, _+_, _%_, _/_, _<_, min}
 use native.Mathlib.Nat.{zero-add}
-use native.Mathlib.Omega.{arith}
-use borrow.Author.Tests.{not-false, leb-false}
 use lib.Dec.{eqb, leb, ltb}
-use lib.ListN.{getD, length, drop}
-use lib.Seq.{getD-append-add, getD-drop}
+use lib.ListN.{length, drop}
+use lib.Seq.{drop-at}
+use borrow.Author.Tests.{not-false, leb-false}
 use Rattle.bits.proofs.Below.{either}
 use Rattle.refusal.proofs.Numbers.{not-zero, not-both, passed-first, passed-rest, accepted-is}
 use Rattle.refusal.specs.Numbers.{verdictNumber, isAccepted, firstOf}
@@ -26,7 +25,6 @@ use Rattle.chain.specs.declared.PinView.{PinView}
 use Rattle.chain.specs.declared.Pins.{Pins}
 use Rattle.chain.specs.declared.RegisterView.{RegisterView}
 use Rattle.chain.specs.declared.Registers.{Registers}
-use Rattle.run.proofs.Before as before-any
 use Rattle.run.specs.Run.{Report, brokenEvent, shortResults, beforeAny, runOf}
 use Rattle.image.proofs.OneToOne.{one-to-one}
 use Rattle.image.specs.Layout.{head, imageOf, over}
@@ -41,6 +39,7 @@ use Rattle.demands.proofs.Rules.{by-the-rules}
 use Rattle.demands.proofs.Runs.{runs-keep}
 use Rattle.demands.proofs.Table.{first-given, by-the-table}
 use Rattle.demands.proofs.Whole.{run-whole, start-whole}
+use Rattle.run.proofs.Before as before-any
 
 -- a call by its verdict
 refused-leaves : (v : Verdict) (old new : List ℕ) → (called v old new .number ≡ 0 → ⊥) → called v old new .buffer ≡ old
@@ -71,19 +70,11 @@ start-number count fill image = by (eqb (length image) 528) (countSound count) r
     by true false e f = simp (e, f)
 
 -- a view
-past : (old new : List ℕ) (k : ℕ) → length new ≤ k → getD (over old 0 new) k 0 ≡ getD old k 0
-past old new k h =
-    let n : ℕ = k - length new in
-    let all : length new + n ≡ k = omega arith in
-    subst (λ (m : ℕ). getD (over old 0 new) m 0 ≡ getD old m 0) all
-    (getD-append-add new (drop (0 + length new) old) n 0
-    ∙ getD-drop (0 + length new) old n 0
-    ∙ ap (λ (m : ℕ). getD old (m + n) 0) (zero-add (length new)))
-
-view-rest : (v : Verdict) (view new : List ℕ) (k : ℕ) → length new ≤ k → getD (called v view (over view 0 new) .buffer) k 0 ≡ getD view k 0
+view-rest : (v : Verdict) (view new : List ℕ) (n : ℕ) → length new ≡ n → drop n (called v view (over view 0 new) .buffer) ≡ drop n view
 unfolding called
-view-rest Accepted view new k h = past view new k h
-view-rest (Refused why) view new k h = refl
+view-rest Accepted view new n is =
+    drop-at new (drop (0 + length new) view) n is ∙ ap (λ (m : ℕ). drop m view) (zero-add (length new) ∙ is)
+view-rest (Refused why) view new n is = refl
 
 -- one that is accepted is of an image, of a sound chain, and of a chip in its count
 seen : (n : ℕ) (image : List ℕ) (chip : ℕ) (view : List ℕ) (s : Chain)
@@ -303,8 +294,8 @@ from-c =
       run-refused = run-refused;
       registers-refused = λ image chip view other. refused-leaves (viewCheck 9 image chip view) view _ other;
       pins-refused = λ image chip view other. refused-leaves (viewCheck 8 image chip view) view _ other;
-      registers-rest = λ image chip view. view-rest (viewCheck 9 image chip view) view (tableBytes (tableOf chip (chainIn image)));
-      pins-rest = λ image chip view. view-rest (viewCheck 8 image chip view) view (pictureBytes (pictureOf chip (chainIn image)));
+      registers-rest = λ image chip view. view-rest (viewCheck 9 image chip view) view (tableBytes (tableOf chip (chainIn image))) 9 refl;
+      pins-rest = λ image chip view. view-rest (viewCheck 8 image chip view) view (pictureBytes (pictureOf chip (chainIn image))) 8 refl;
     }
 
 pub as-the-model : AsTheModel
@@ -312,6 +303,7 @@ as-the-model =
     record {
       start = started;
       run = run-goes;
+      run-told = image-number;
       start-read = λ count fill image e.
           subst (λ (b : List ℕ). (isImage b ≡ true) × (chainIn b ≡ startOf count fill .chain)) (sym (started count fill image e))
           (read-again (startOf count fill .chain) (start-whole count fill));

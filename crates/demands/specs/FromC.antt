@@ -3,11 +3,12 @@
 use mathlib.Core.Bool.{Bool, true, false, not, _&&_, _||_}
 use mathlib.Core.List.{List, [], _∷_, _++_}
 use mathlib.Core.Path.{_≡_}
-use Prim.Native.Nat.{ℕ, _/_, _≤_, min}
+use Prim.Native.Nat.{ℕ, _/_, min}
 use lib.Dec.{eqb, leb, ltb}
-use lib.ListN.{getD, length}
+use lib.ListN.{length, drop}
 use Rattle.bits.specs.Below.{digit}
 use Rattle.bits.specs.Byte.{bit}
+use Rattle.refusal.specs.Numbers.{verdictNumber}
 use Rattle.chain.specs.Answers.{tabled, pictured}
 use Rattle.chain.specs.Start.{startOf}
 use Rattle.chain.specs.Views.{registerView, pinView}
@@ -57,8 +58,8 @@ pub record FromC : Type 0 where
   pub registers-refused : (image : List ℕ) (chip : ℕ) (view : List ℕ) → (registersCall image chip view .number ≡ 0 → ⊥) → registersCall image chip view .buffer ≡ view
   pub pins-refused : (image : List ℕ) (chip : ℕ) (view : List ℕ) → (pinsCall image chip view .number ≡ 0 → ⊥) → pinsCall image chip view .buffer ≡ view
   -- and of a longer buffer an accepted view leaves what is past its own bytes
-  pub registers-rest : (image : List ℕ) (chip : ℕ) (view : List ℕ) (k : ℕ) → 9 ≤ k → getD (registersCall image chip view .buffer) k 0 ≡ getD view k 0
-  pub pins-rest : (image : List ℕ) (chip : ℕ) (view : List ℕ) (k : ℕ) → 8 ≤ k → getD (pinsCall image chip view .buffer) k 0 ≡ getD view k 0
+  pub registers-rest : (image : List ℕ) (chip : ℕ) (view : List ℕ) → drop 9 (registersCall image chip view .buffer) ≡ drop 9 view
+  pub pins-rest : (image : List ℕ) (chip : ℕ) (view : List ℕ) → drop 8 (pinsCall image chip view .buffer) ≡ drop 8 view
 
 -- the bytes of a table and of a picture agree: one event number in both, S6 is the byte of EI, and GINT reads active just where S7 is set and S4 is not
 pub record BytesAgree (table picture : List ℕ) : Type 0 where
@@ -75,6 +76,9 @@ pub record AsTheModel : Type 0 where
       → isBeforeAny (runCall image events limit results accepted .number) ≡ false
       → let r : Report = runOf (chainIn image) events limit results in
       Left (runCall image events limit results accepted) (imageOf (r .ran .chain)) (r .results) (r .ran .accepted)
+  -- and of an image its number is that of the model's run
+  pub run-told : (image events : List ℕ) (limit : ℕ) (results : List ℕ) (accepted : ℕ) → isImage image ≡ true
+      → runCall image events limit results accepted .number ≡ verdictNumber (runOf (chainIn image) events limit results .ran .verdict)
   -- what both leave is an image, and reading it gives the model's chain: that is the chain of the next call
   pub start-read : (count fill : ℕ) (image : List ℕ) → startCall count fill image .number ≡ 0
       → (isImage (startCall count fill image .buffer) ≡ true) × (chainIn (startCall count fill image .buffer) ≡ startOf count fill .chain)
