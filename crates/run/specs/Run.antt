@@ -30,12 +30,18 @@ abbrev pub listLength : List ℕ → ℕ
 listLength bytes = length bytes / 4
 
 -- 10: event bytes not a multiple of four
+abbrev pub brokenLength : ℕ → Bool × Refusal
+brokenLength n = (not (eqb (n % 4) 0), BrokenEvent)
+
 abbrev pub brokenEvent : List ℕ → Bool × Refusal
-brokenEvent bytes = (not (eqb (length bytes % 4) 0), BrokenEvent)
+brokenEvent bytes = brokenLength (length bytes)
 
 -- 11: result buffer under two bytes per listed event, whatever the limit
+abbrev pub shortRoom : ℕ → ℕ → Bool × Refusal
+shortRoom n room = (ltb room (2 * (n / 4)), ShortResults)
+
 abbrev pub shortResults : List ℕ → List ℕ → Bool × Refusal
-shortResults bytes results = (ltb (length results) (2 * listLength bytes), ShortResults)
+shortResults bytes results = shortRoom (length bytes) (length results)
 
 -- what a run takes before any event
 unfoldable pub beforeAny : Chain → List ℕ → List ℕ → Verdict

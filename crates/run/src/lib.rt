@@ -4,15 +4,11 @@
 pub mod in_place;
 mod list;
 
-ghost use mathlib.Core.Bool.{not};
 ghost use mathlib.Core.List.{[], _∷_};
 ghost use mathlib.Core.Path.{_≡_};
-ghost use Prim.Native.Nat.{_*_, _/_, _%_};
-ghost use lib.Dec.{eqb, ltb};
 ghost use Rattle.refusal.specs.Numbers.{firstOf};
-ghost use Rattle.refusal.specs.declared.Refusal.the-variants.{BrokenEvent, ShortResults};
 ghost use Rattle.chain.specs.Refusals.{notSound};
-ghost use Rattle.run.specs.Run.{runOf};
+ghost use Rattle.run.specs.Run.{brokenLength, shortRoom, runOf};
 use crate::in_place::run_in;
 use chain::Chain;
 use chain::Event;
@@ -66,7 +62,7 @@ impl Ran {
 
 // 1, 10 and 11 come before any event: for a list of so many bytes, and so much room for results.
 pub fn before_any(chain: Chain, length: usize, room: usize) -> Verdict
-    ensures { λ r. ⌜ r ≡ firstOf (notSound chain ∷ (not (eqb (length % 4) 0), BrokenEvent) ∷ (ltb room (2 * (length / 4)), ShortResults) ∷ []) ⌝ }
+    ensures { λ r. ⌜ r ≡ firstOf (notSound chain ∷ brokenLength length ∷ shortRoom length room ∷ []) ⌝ }
 {
     if !chain.is_sound() {
         return Verdict::Refused(Refusal::NotSound);
