@@ -14,7 +14,7 @@
 #include <stdio.h>
 #include <stdlib.h>
 
-#define EVENTS 120000
+#define EVENTS 2000000
 
 #ifdef MODEL_ALONE
 #define FOUND "nothing compared"
@@ -133,8 +133,8 @@ static void lists_in_one_call(struct source *r, unsigned long lists) {
 int main(int argc, char **argv) {
     struct source r = {9519};
     unsigned long events = argc > 1 ? strtoul(argv[1], NULL, 10) : EVENTS;
-    unsigned long lists = events / 30 + 1;
-    unsigned images = (unsigned)(events / 20000) + 2;
+    unsigned long lists = events / 100 + 1;
+    unsigned images = (unsigned)(events / 50000) + 2;
     starts();
     events = event_by_event(&r, events);
     lists_in_one_call(&r, lists);

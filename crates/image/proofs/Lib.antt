@@ -1,3 +1,4 @@
+pub mod Formed
 pub mod Lists
 pub mod OneToOne
 pub mod Parts

@@ -1,18 +1,18 @@
--- Lists of bytes: written over, and the same.
+-- Lists of bytes: written over, and zero.
 -- Assumes nothing.
-use mathlib.Core.Bool.{true, false, _&&_, false≢true}
+use mathlib.Core.Bool.{true, false, _&&_}
 use mathlib.Core.List.{List, [], _∷_, _++_, append-nil, append-assoc}
 use mathlib.Core.Path.{_≡_, refl, sym, ap, ap₂, _∙_}
-use Prim.Native.Nat.{ℕ, zero, suc, _+_, _-_, _≤_}
-use native.Mathlib.Nat.{zero-add, le-of-eq, le-refl}
+use Prim.Native.Nat.{ℕ, zero, suc, _+_, _-_, _≤_, _<_, suc-le-suc}
+use native.Mathlib.Nat.{zero-add, zero-lt-suc, le-of-eq, le-refl}
 use lib.Dec.{eqb}
-use lib.ListN.{length, getD, take, drop, drop-of-length-le}
+use lib.ListN.{length, getD, take, drop, replicate, drop-of-length-le}
 use lib.Seq.{paste, length-paste, take-length, take-all, take-at, drop-drop, drop-append-add}
 use borrow.Rule.Slice.PartMut.{putMid, post-is}
 use borrow.Author.Tests.{ne-eqb, eq-eqb, eqb-true}
 use Rattle.bits.proofs.Below.{both-left, both-right, both-not}
 use Rattle.image.specs.Layout.{over}
-use Rattle.image.specs.Reading.{same}
+use Rattle.image.specs.Reading.{isZero}
 
 -- a copy of all of a list is that list written over
 pub paste-over : (old : List ℕ) (at : ℕ) (new : List ℕ) → paste old at new (length new) ≡ over old at new
@@ -48,21 +48,20 @@ part-over xs ys a e h ends =
 pub length-over : (old : List ℕ) (at : ℕ) (new : List ℕ) → at + length new ≤ length old → length (over old at new) ≡ length old
 length-over old at new h = ap length (sym (paste-over old at new)) ∙ length-paste old at new (length new) h (le-refl (length new))
 
--- lists that differ at some place are not the same
-pub same-not : (a b : List ℕ) (k : ℕ) → (getD a k 0 ≡ getD b k 0 → ⊥) → same a b ≡ false
-same-not [] [] k differ = absurd (differ refl)
-same-not [] (y ∷ ys) k differ = refl
-same-not (x ∷ xs) [] k differ = refl
-same-not (x ∷ xs) (y ∷ ys) zero differ = ap (λ t. t && same xs ys) (ne-eqb x y differ)
-same-not (x ∷ xs) (y ∷ ys) (suc k) differ = both-not (eqb x y) (same xs ys) (same-not xs ys k differ)
+-- bytes one of which is not zero are not all zero
+pub zero-not : (b : List ℕ) (k : ℕ) → (getD b k 0 ≡ 0 → ⊥) → isZero b ≡ false
+zero-not [] k is = absurd (is refl)
+zero-not (x ∷ xs) zero is = ap (λ t. t && isZero xs) (ne-eqb x 0 is)
+zero-not (x ∷ xs) (suc k) is = both-not (eqb x 0) (isZero xs) (zero-not xs k is)
 
-pub same-self : (a : List ℕ) → same a a ≡ true
-same-self [] = refl
-same-self (x ∷ xs) = ap₂ (λ s t. s && t) (eq-eqb x x refl) (same-self xs)
+-- bytes each of which is zero are
+pub zero-each : (b : List ℕ) → ((k : ℕ) → k < length b → getD b k 0 ≡ 0) → isZero b ≡ true
+zero-each [] each = refl
+zero-each (x ∷ xs) each =
+    ap₂ (λ s t. s && t) (eq-eqb x 0 (each 0 (zero-lt-suc (length xs)))) (zero-each xs (λ k h. each (suc k) (suc-le-suc h)))
 
-pub same-is : (a b : List ℕ) → same a b ≡ true → a ≡ b
-same-is [] [] h = refl
-same-is [] (y ∷ ys) h = absurd (false≢true h)
-same-is (x ∷ xs) [] h = absurd (false≢true h)
-same-is (x ∷ xs) (y ∷ ys) h =
-    ap₂ (λ z zs. z ∷ zs) (eqb-true x y (both-left (eqb x y) (same xs ys) h)) (same-is xs ys (both-right (eqb x y) (same xs ys) h))
+-- and there is one list of them of each length
+pub zero-is : (b : List ℕ) → isZero b ≡ true → b ≡ replicate (length b) 0
+zero-is [] h = refl
+zero-is (x ∷ xs) h =
+    ap₂ (λ z zs. z ∷ zs) (eqb-true x 0 (both-left (eqb x 0) (isZero xs) h)) (zero-is xs (both-right (eqb x 0) (isZero xs) h))

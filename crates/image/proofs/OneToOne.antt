@@ -1,36 +1,43 @@
 -- The image of a chain and the chain of an image: reading the one gives the other back, and so does writing.
 -- Assumes nothing.
 use mathlib.Core.Bool.{Bool, true, _&&_}
-use mathlib.Core.List.{List}
+use mathlib.Core.List.{List, _++_}
 use mathlib.Core.Path.{_≡_, sym, ap, ap₂, subst, _∙_}
 use Prim.Native.Nat.{ℕ, _+_, _*_, _/_, _%_, _≤_, _<_}
 use native.Mathlib.Omega.{arith}
 use lib.Dec.{eqb}
-use lib.ListN.{length, drop, replicate, length-append, length-take, length-drop}
-use lib.Seq.{drop-at}
+use lib.ListN.{length, drop, replicate, length-append, length-take, length-drop, take-append-drop}
+use lib.Seq.{drop-at, drop-drop, drop-append-add}
 use borrow.Author.Tests.{eqb-true, eq-eqb}
 use Rattle.bits.specs.Below.{digit}
-use Rattle.bits.proofs.Below.{both-left, both-right}
+use Rattle.bits.proofs.Below.{both-left, both-right, every-each, every-all}
 use Rattle.chip.specs.Fields.{noChip}
 use Rattle.chip.specs.declared.Chip.{Chip}
 use Rattle.chain.specs.declared.Chain.{Chain}
 use Rattle.chain.specs.declared.Response.{Response}
 use Rattle.image.specs.Layout.{head, records, imageOf}
 use Rattle.image.specs.OneToOne.{WholeChip, Whole, OneToOne}
-use Rattle.image.specs.Reading.{chipIn, chipsIn, responseIn, chainIn, same, isImage}
-use Rattle.image.proofs.Lists.{same-is, same-self}
+use Rattle.image.specs.Reading.{chipIn, chipsIn, responseIn, chainIn, headForm, recordForm, recordsForm, isImage}
+use Rattle.image.proofs.Formed.{head-again, records-again, head-formed, records-formed}
 use Rattle.image.proofs.Readback.{digit-back, response-back, chips-back}
 use Rattle.image.proofs.Records.{head-sixteen, records-length, chips-at, chips-length}
 
 -- an image has 528 bytes
 pub image-length : (b : List ℕ) → isImage b ≡ true → length b ≡ 528
 unfolding isImage
-image-length b is = eqb-true (length b) 528 (both-left (eqb (length b) 528) (same (imageOf (chainIn b)) b) is)
+image-length b is = eqb-true (length b) 528 (both-left (eqb (length b) 528) (headForm b) (both-left (eqb (length b) 528 && headForm b) (recordsForm b) is))
 
 -- writing what was read gives the same image
 pub written-back : (b : List ℕ) → isImage b ≡ true → imageOf (chainIn b) ≡ b
-unfolding isImage
-written-back b is = same-is (imageOf (chainIn b)) b (both-right (eqb (length b) 528) (same (imageOf (chainIn b)) b) is)
+unfolding isImage recordsForm imageOf chainIn
+written-back b is =
+    let long : length b ≡ 528 = image-length b is in
+    let front : headForm b ≡ true = both-right (eqb (length b) 528) (headForm b) (both-left (eqb (length b) 528 && headForm b) (recordsForm b) is) in
+    let each : recordsForm b ≡ true = both-right (eqb (length b) 528 && headForm b) (recordsForm b) is in
+    ap₂ (λ before behind. before ++ behind) (head-again b (omega (arith, long)) front)
+    (records-again 8 (drop 16 b) (omega (arith, length-drop 16 b, long))
+    (λ i h. ap recordForm (drop-drop (64 * i) 16 b) ∙ every-each 8 (λ k. recordForm (drop (16 + 64 * k) b)) each i h))
+    ∙ take-append-drop 16 b
 
 -- reading the image of a chain gives that chain
 pub read-back : (s : Chain) → Whole s → chainIn (imageOf s) ≡ s
@@ -58,10 +65,16 @@ written-length s whole =
 
 -- and is one
 pub of-the-layout : (s : Chain) → Whole s → isImage (imageOf s) ≡ true
-unfolding isImage
+unfolding isImage recordsForm imageOf head
 of-the-layout s whole =
-    ap₂ (λ long is. long && is) (eq-eqb (length (imageOf s)) 528 (written-length s whole))
-    (ap (λ r. same (imageOf r) (imageOf s)) (read-back s whole) ∙ same-self (imageOf s))
+    let low : s .event % 256 < 256 = omega arith in
+    let at : (i : ℕ) → 16 + 64 * i ≡ length (head s) + 64 * i = λ i. omega (arith, head-sixteen s) in
+    let each : recordsForm (imageOf s) ≡ true =
+    every-all 8 (λ i. recordForm (drop (16 + 64 * i) (imageOf s)))
+    (λ i h.
+    ap recordForm (ap (λ (n : ℕ). drop n (imageOf s)) (at i) ∙ drop-append-add (head s) (records (s .chips)) (64 * i))
+    ∙ records-formed (s .chips) (λ k l. whole .whole-chips k (subst (λ n. k < n) (whole .eight-chips) l)) i (omega (arith, h, whole .eight-chips))) in
+    simp (eq-eqb (length (imageOf s)) 528 (written-length s whole), head-formed (s .count) (s .enable) (s .iack) (s .event % 256) (s .event / 256) (s .response) (records (s .chips)) low, each)
 
 -- what is read from a record that is all there is whole
 whole-chip : (r : List ℕ) → 64 ≤ length r → WholeChip (chipIn r)

@@ -1,16 +1,16 @@
--- The chain in an image, and which bytes are an image: those that writing what was read gives again.
-use mathlib.Core.Bool.{Bool, true, false, cond, _&&_}
+-- The chain in an image, and which bytes are an image.
+use mathlib.Core.Bool.{Bool, true, cond, _&&_, _||_}
 use mathlib.Core.List.{List, [], _∷_}
 use Prim.Native.Nat.{ℕ, zero, suc, _+_, _*_}
-use lib.Dec.{eqb}
+use lib.Dec.{eqb, leb, ltb}
 use lib.ListN.{length, getD, take, drop}
+use Rattle.bits.specs.Below.{every}
 use Rattle.chip.specs.declared.Chip.{Chip}
 use Rattle.chip.specs.declared.Destination.{Destination}
 use Rattle.chip.specs.declared.Destination.the-variants.{Nowhere, Imr, Acr, Level}
 use Rattle.chain.specs.declared.Chain.{Chain}
 use Rattle.chain.specs.declared.Response.{Response}
 use Rattle.chain.specs.declared.Response.the-variants.{Idle, UnderWay}
-use Rattle.image.specs.Layout.{imageOf}
 
 -- byte n
 abbrev pub byte : List ℕ → ℕ → ℕ
@@ -59,13 +59,28 @@ chainIn b =
       event = byte b 3 + 256 * byte b 4;
     }
 
--- the same bytes
-abbrev pub same : List ℕ → List ℕ → Bool
-same [] [] = true
-same [] (y ∷ ys) = false
-same (x ∷ xs) [] = false
-same (x ∷ xs) (y ∷ ys) = eqb x y && same xs ys
+-- bytes that are all zero
+abbrev pub isZero : List ℕ → Bool
+isZero [] = true
+isZero (x ∷ xs) = eqb x 0 && isZero xs
 
--- an image is 528 bytes long and of the layout
+-- The form of the head: Enable In and IACK are 0 or 1, byte 5 is 1 or 5 to 10 are zero, 11 to 15 are zero.
+-- Byte 3 is below 256 in whatever can be lent; of a list of numbers it has to be said.
+unfoldable pub headForm : List ℕ → Bool
+headForm b =
+    ltb (byte b 3) 256 && leb (byte b 1) 1 && leb (byte b 2) 1
+    && (eqb (byte b 5) 1 || isZero (take 6 (drop 5 b))) && isZero (take 5 (drop 11 b))
+
+-- The form of a chip record: byte 8 is 3, or it is at most 2 and 9 and 10 are zero; 11 to 15 and 24 to 31 are zero.
+unfoldable pub recordForm : List ℕ → Bool
+recordForm r =
+    (eqb (byte r 8) 3 || leb (byte r 8) 2 && isZero (take 2 (drop 9 r)))
+    && isZero (take 5 (drop 11 r)) && isZero (take 8 (drop 24 r))
+
+-- each of the eight records
+unfoldable pub recordsForm : List ℕ → Bool
+recordsForm b = every 8 (λ i. recordForm (drop (16 + 64 * i) b))
+
+-- an image is 528 bytes long and of the form
 unfoldable pub isImage : List ℕ → Bool
-isImage b = eqb (length b) 528 && same (imageOf (chainIn b)) b
+isImage b = eqb (length b) 528 && headForm b && recordsForm b
