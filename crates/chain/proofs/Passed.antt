@@ -17,7 +17,7 @@ use Rattle.chip.specs.Data.{isPastItsCount}
 use Rattle.chip.specs.Figure4.{figure4, undefined}
 use Rattle.chip.specs.Sound.{chipSound}
 use Rattle.chain.specs.Fields.{chipAt}
-use Rattle.chain.specs.Refusals.{checks, notBelow, noSuchChip, noSuchChannel, noSuchLevel, whileLow, pulseUnderWay, undefinedCommand, noDestination, pastItsCount, verdictOf}
+use Rattle.chain.specs.Refusals.{checks, notBelowCount, noSuchChip, noSuchChannel, noSuchLevel, whileIackIsLow, pulseUnderWay, undefinedCommand, noDestination, pastItsCount, verdictOf}
 use Rattle.chain.specs.Sound.{sound}
 use Rattle.chain.specs.Views.{viewVerdict}
 use Rattle.chain.specs.declared.Chain.{Chain}
@@ -107,7 +107,7 @@ pub left-to-the-rest : (first rest : List (Bool × Refusal)) (v : Verdict) (ok :
 left-to-the-rest first rest v ok is told e = accepted-so-far first rest (ap isAccepted (sym is) ∙ sym told ∙ e)
 
 -- what the bus accepts names a chip below the count
-pub bus-names : (count i : ℕ) (iack : Bool) (bus : Verdict) (ok : Bool) → bus ≡ firstOf (notBelow count i ∷ whileLow iack ∷ []) → ok ≡ isAccepted bus → ok ≡ true
+pub bus-names : (count i : ℕ) (iack : Bool) (bus : Verdict) (ok : Bool) → bus ≡ firstOf (notBelowCount count i ∷ whileIackIsLow iack ∷ []) → ok ≡ isAccepted bus → ok ≡ true
     → ltb i count ≡ true
 bus-names count i iack bus ok is told e =
-    below i count (passed-first (leb count i) NoSuchChip (whileLow iack ∷ []) (accepted-is _ (ap isAccepted (sym is) ∙ sym told ∙ e)))
+    below i count (passed-first (leb count i) NoSuchChip (whileIackIsLow iack ∷ []) (accepted-is _ (ap isAccepted (sym is) ∙ sym told ∙ e)))

@@ -22,11 +22,11 @@ abbrev pub notSound : Chain → Bool × Refusal
 notSound s = (not (sound s), NotSound)
 
 -- 2: chip not below the count
-abbrev pub notBelow : ℕ → ℕ → Bool × Refusal
-notBelow count i = (leb count i, NoSuchChip)
+abbrev pub notBelowCount : ℕ → ℕ → Bool × Refusal
+notBelowCount count i = (leb count i, NoSuchChip)
 
 abbrev pub noSuchChip : ℕ → Chain → Bool × Refusal
-noSuchChip i s = notBelow (s .count) i
+noSuchChip i s = notBelowCount (s .count) i
 
 -- 3: line event, channel above 7
 abbrev pub noSuchChannel : ℕ → Bool × Refusal
@@ -37,42 +37,42 @@ abbrev pub noSuchLevel : ℕ → Bool × Refusal
 noSuchLevel level = (ltb 1 level, NoSuchLevel)
 
 -- 5: events 1 to 4 while IACK is low
-abbrev pub whileLow : Bool → Bool × Refusal
-whileLow iack = (not iack, PulseUnderWay)
+abbrev pub whileIackIsLow : Bool → Bool × Refusal
+whileIackIsLow iack = (not iack, PulseUnderWay)
 
 abbrev pub pulseUnderWay : Chain → Bool × Refusal
-pulseUnderWay s = whileLow (s .iack)
+pulseUnderWay s = whileIackIsLow (s .iack)
 
 -- 6: IACK already at that level
-abbrev pub lowAlready : Bool → Bool × Refusal
-lowAlready iack = (not iack, IackThereAlready)
+abbrev pub alreadyLow : Bool → Bool × Refusal
+alreadyLow iack = (not iack, IackThereAlready)
 
 abbrev pub iackLow : Chain → Bool × Refusal
-iackLow s = lowAlready (s .iack)
+iackLow s = alreadyLow (s .iack)
 
-abbrev pub highAlready : Bool → Bool × Refusal
-highAlready iack = (iack, IackThereAlready)
+abbrev pub alreadyHigh : Bool → Bool × Refusal
+alreadyHigh iack = (iack, IackThereAlready)
 
 abbrev pub iackHigh : Chain → Bool × Refusal
-iackHigh s = highAlready (s .iack)
+iackHigh s = alreadyHigh (s .iack)
 
 -- 7: undefined command
 abbrev pub undefinedCommand : ℕ → Bool × Refusal
 undefinedCommand code = (undefined (figure4 code), UndefinedCommand)
 
 -- 8: data write, no destination
-abbrev pub nowhereToGo : Chip → Bool × Refusal
-nowhereToGo c = (hasNoDestination (c .destination), NoDestination)
+abbrev pub withoutDestination : Chip → Bool × Refusal
+withoutDestination c = (hasNoDestination (c .destination), NoDestination)
 
 abbrev pub noDestination : ℕ → Chain → Bool × Refusal
-noDestination i s = nowhereToGo (chipAt s i)
+noDestination i s = withoutDestination (chipAt s i)
 
 -- 9: data write to a level, place at or past its count
-abbrev pub placePast : Chip → Bool × Refusal
-placePast c = (isPastItsCount (c .counts) (c .destination), PastItsCount)
+abbrev pub atOrPastItsCount : Chip → Bool × Refusal
+atOrPastItsCount c = (isPastItsCount (c .counts) (c .destination), PastItsCount)
 
 abbrev pub pastItsCount : ℕ → Chain → Bool × Refusal
-pastItsCount i s = placePast (chipAt s i)
+pastItsCount i s = atOrPastItsCount (chipAt s i)
 
 -- the tests that an event on a sound chain has to pass, in the paper's order
 abbrev pub checks : Event → Chain → List (Bool × Refusal)

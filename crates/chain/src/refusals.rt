@@ -5,7 +5,7 @@ ghost use mathlib.Core.List.{[], _∷_};
 ghost use mathlib.Core.Path.{_≡_};
 ghost use Rattle.chip.specs.Sound.{chipSound};
 ghost use Rattle.refusal.specs.Numbers.{firstOf};
-ghost use Rattle.chain.specs.Refusals.{notBelow, noSuchChannel, noSuchLevel, whileLow, lowAlready, highAlready, undefinedCommand, nowhereToGo, placePast, verdictOf};
+ghost use Rattle.chain.specs.Refusals.{notBelowCount, noSuchChannel, noSuchLevel, whileIackIsLow, alreadyLow, alreadyHigh, undefinedCommand, withoutDestination, atOrPastItsCount, verdictOf};
 ghost use Rattle.chain.specs.Sound.{sound};
 ghost use Rattle.chain.specs.declared.Event.the-variants.{Data};
 use crate::Chain;
@@ -17,7 +17,7 @@ use refusal::Verdict;
 
 // Whatever names a chip: chip not below the count.
 pub(crate) fn chip_verdict(count: u8, i: u8) -> Verdict
-    ensures { λ r. ⌜ r ≡ firstOf (notBelow count i ∷ []) ⌝ }
+    ensures { λ r. ⌜ r ≡ firstOf (notBelowCount count i ∷ []) ⌝ }
 {
     if i >= count {
         return Verdict::Refused(Refusal::NoSuchChip);
@@ -27,7 +27,7 @@ pub(crate) fn chip_verdict(count: u8, i: u8) -> Verdict
 
 // Every access on the bus, and the whole verdict on a read: chip not below the count; IACK low.
 pub fn bus_verdict(count: u8, iack: bool, i: u8) -> Verdict
-    ensures { λ r. ⌜ r ≡ firstOf (notBelow count i ∷ whileLow iack ∷ []) ⌝ }
+    ensures { λ r. ⌜ r ≡ firstOf (notBelowCount count i ∷ whileIackIsLow iack ∷ []) ⌝ }
 {
     let named = chip_verdict(count, i);
     if !named.is_accepted() {
@@ -41,7 +41,7 @@ pub fn bus_verdict(count: u8, iack: bool, i: u8) -> Verdict
 
 // A command write.
 pub fn command_verdict(count: u8, iack: bool, i: u8, code: u8) -> Verdict
-    ensures { λ r. ⌜ r ≡ firstOf (notBelow count i ∷ whileLow iack ∷ undefinedCommand code ∷ []) ⌝ }
+    ensures { λ r. ⌜ r ≡ firstOf (notBelowCount count i ∷ whileIackIsLow iack ∷ undefinedCommand code ∷ []) ⌝ }
 {
     let bus = bus_verdict(count, iack, i);
     if !bus.is_accepted() {
@@ -56,7 +56,7 @@ pub fn command_verdict(count: u8, iack: bool, i: u8, code: u8) -> Verdict
 // A data write that the bus accepts, by the chip that it goes to: no destination; place at or past its count.
 pub fn write_verdict(chip: Chip) -> Verdict
     requires { ⌜ chipSound chip ≡ true ⌝ }
-    ensures { λ r. ⌜ r ≡ firstOf (nowhereToGo chip ∷ placePast chip ∷ []) ⌝ }
+    ensures { λ r. ⌜ r ≡ firstOf (withoutDestination chip ∷ atOrPastItsCount chip ∷ []) ⌝ }
 {
     if chip.has_no_destination() {
         return Verdict::Refused(Refusal::NoDestination);
@@ -69,7 +69,7 @@ pub fn write_verdict(chip: Chip) -> Verdict
 
 // A line takes a level.
 pub fn line_verdict(count: u8, i: u8, channel: u8, level: u8) -> Verdict
-    ensures { λ r. ⌜ r ≡ firstOf (notBelow count i ∷ noSuchChannel channel ∷ noSuchLevel level ∷ []) ⌝ }
+    ensures { λ r. ⌜ r ≡ firstOf (notBelowCount count i ∷ noSuchChannel channel ∷ noSuchLevel level ∷ []) ⌝ }
 {
     let named = chip_verdict(count, i);
     if !named.is_accepted() {
@@ -93,7 +93,7 @@ pub fn level_verdict(level: u8) -> Verdict
 
 // IACK falls: it is low already.
 pub fn fall_verdict(iack: bool) -> Verdict
-    ensures { λ r. ⌜ r ≡ firstOf (lowAlready iack ∷ []) ⌝ }
+    ensures { λ r. ⌜ r ≡ firstOf (alreadyLow iack ∷ []) ⌝ }
 {
     if !iack {
         return Verdict::Refused(Refusal::IackThereAlready);
@@ -103,7 +103,7 @@ pub fn fall_verdict(iack: bool) -> Verdict
 
 // IACK rises: it is high already.
 pub fn rise_verdict(iack: bool) -> Verdict
-    ensures { λ r. ⌜ r ≡ firstOf (highAlready iack ∷ []) ⌝ }
+    ensures { λ r. ⌜ r ≡ firstOf (alreadyHigh iack ∷ []) ⌝ }
 {
     if iack {
         return Verdict::Refused(Refusal::IackThereAlready);

@@ -4,10 +4,8 @@ use mathlib.Core.Bool.{Bool, true, false}
 use mathlib.Core.List.{List}
 use mathlib.Core.Path.{_≡_, refl, ap, sym, subst, _∙_}
 use Prim.Native.Nat.{ℕ, _<_, min}
-use borrow.Author.Tests.{eqb-true, eqb-false}
 use lib.Dec.{eqb}
-use lib.ListN.{getD, set, length, replicate, length-set, getD-replicate}
-use lib.Seq.{getD-set-same, getD-set-other}
+use lib.ListN.{getD, length, replicate, length-set, getD-replicate}
 use Rattle.bits.proofs.Below.{either}
 use Rattle.bits.specs.Byte.{bit}
 use Rattle.refusal.specs.declared.Verdict.{Verdict}
@@ -46,6 +44,7 @@ use Rattle.run.specs.List.{listedAt}
 use Rattle.run.specs.Run.{listLength, stepOf, runFrom, runOf}
 use Rattle.run.specs.declared.Listed.{Listed}
 use Rattle.run.specs.declared.Listed.the-variants.{Known, Unknown}
+use Rattle.image.proofs.Whole.{same-chips, whole-with}
 use Rattle.image.specs.OneToOne.{WholeChip, Whole}
 use Rattle.demands.proofs.Runs as runs
 
@@ -108,26 +107,7 @@ finished-as channel c =
 
 -- a chain with one chip replaced by one as large
 with-chip : (i : ℕ) (c : Chip) (s : Chain) → AsLarge (chipAt s i) c → Whole s → Whole (withChip i c s)
-unfolding chainFields
-with-chip i c s large w =
-    record { eight-chips = length-set (s .chips) i c ∙ w .eight-chips; whole-chips = λ k h. by (eqb k i) k refl h }
-  where
-    by : (is : Bool) (k : ℕ) → eqb k i ≡ is → k < 8 → WholeChip (chipAt (withChip i c s) k)
-    by true k is h =
-        let same : k ≡ i = eqb-true k i is in
-        let below : i < 8 = subst (λ n. n < 8) same h in
-        subst (λ n. WholeChip (getD (set (s .chips) i c) n noChip)) (sym same)
-        (subst WholeChip (sym (getD-set-same (s .chips) i c noChip (subst (λ n. i < n) (sym (w .eight-chips)) below)))
-        (whole-as (chipAt s i) c large (w .whole-chips i below)))
-    by false k is h = subst WholeChip (sym (getD-set-other (s .chips) i k c noChip (eqb-false k i is))) (w .whole-chips k h)
-
--- whose chips are those of a whole chain is whole
-same-chips : (s t : Chain) → t .chips ≡ s .chips → Whole s → Whole t
-same-chips s t is w =
-    record {
-      eight-chips = ap length is ∙ w .eight-chips;
-      whole-chips = λ k h. subst (λ (l : List Chip). WholeChip (getD l k noChip)) (sym is) (w .whole-chips k h);
-    }
+with-chip i c s large w = whole-with i c s (λ below. whole-as (chipAt s i) c large (w .whole-chips i below)) w
 
 first-whole : (found : Response) (s : Chain) → Whole s → Whole (firstPulse found s)
 unfolding chainFields firstPulse

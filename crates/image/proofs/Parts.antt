@@ -2,14 +2,12 @@
 -- Assumes nothing.
 use mathlib.Core.Bool.{Bool, true}
 use mathlib.Core.List.{List, [], _∷_, _++_, append-assoc}
-use mathlib.Core.Logic.{⊎-elim}
 use mathlib.Core.Path.{_≡_, refl, sym, ap, ap₂, subst, _∙_}
 use Prim.Native.Nat.{ℕ, zero, suc, _+_, _*_, _/_, _%_, _<_, suc-le-suc}
 use native.Mathlib.Nat.{zero-lt-suc, not-suc-le-zero, le-of-suc-le-suc}
 use native.Mathlib.Omega.{arith}
-use lib.ListN.{length, getD, set, take, drop, replicate, length-set}
+use lib.ListN.{length, getD, set, take, drop, replicate}
 use lib.Seq.{drop-at, take-append-add, drop-append-add}
-use Rattle.bits.proofs.Stored.{stored}
 use Rattle.bits.specs.Below.{digit}
 use Rattle.chip.specs.Fields.{noChip}
 use Rattle.chip.specs.declared.Chip.{Chip}
@@ -22,6 +20,7 @@ use Rattle.image.specs.OneToOne.{WholeChip, Whole}
 use Rattle.image.specs.Reading.{chainIn, isImage}
 use Rattle.image.proofs.OneToOne.{image-length, written-back, read-back, of-the-layout, read-whole}
 use Rattle.image.proofs.Records.{head-sixteen, record-length}
+use Rattle.image.proofs.Whole.{same-chips, whole-with}
 
 -- bytes that hold a chain: they are an image, and the chain is in it
 pub record Holds (b : List ℕ) (s : Chain) : Type 0 where
@@ -55,35 +54,16 @@ record-over (x ∷ cs) (suc i) c whole each h =
     ∙ over-behind (chipRecord x) (records cs) (chipRecord c) (64 * i)
     ∙ ap (λ rest. chipRecord x ++ rest) (record-over cs i c whole (λ k l. each (suc k) (suc-le-suc l)) (le-of-suc-le-suc h))
 
--- a chain that is whole stays so with a whole chip in it
-whole-with : (i : ℕ) (c : Chip) (s : Chain) → WholeChip c → Whole s → Whole (withChip i c s)
-unfolding withChip withChips
-whole-with i c s new whole =
-    record {
-      eight-chips = length-set (s .chips) i c ∙ whole .eight-chips;
-      whole-chips =
-          λ k h.
-          ⊎-elim (λ same. subst WholeChip (sym same) new) (λ same. subst WholeChip (sym same) (whole .whole-chips k h))
-          (stored (s .chips) i k c noChip);
-    }
-
 pub chip-set : (b : List ℕ) (i : ℕ) (c : Chip) → isImage b ≡ true → WholeChip c → i < 8 → Holds (over b (16 + 64 * i) (chipRecord c)) (withChip i c (chainIn b))
 unfolding imageOf head withChip withChips
 chip-set b i c is new h =
     let s : Chain = chainIn b in
     let whole : Whole s = read-whole b (image-length b is) in
     let at : 16 + 64 * i ≡ length (head s) + 64 * i = omega (arith, head-sixteen s) in
-    holds (over b (16 + 64 * i) (chipRecord c)) (withChip i c s) (whole-with i c s new whole)
+    holds (over b (16 + 64 * i) (chipRecord c)) (withChip i c s) (whole-with i c s (λ below. new) whole)
     (ap₂ (λ l (n : ℕ). over l n (chipRecord c)) (sym (written-back b is)) at
     ∙ over-behind (head s) (records (s .chips)) (chipRecord c) (64 * i)
     ∙ ap (λ rest. head s ++ rest) (record-over (s .chips) i c new (λ k l. whole .whole-chips k (subst (λ n. k < n) (whole .eight-chips) l)) (omega (arith, h, whole .eight-chips))))
-
-same-chips : (s t : Chain) → s .chips ≡ t .chips → Whole s → Whole t
-same-chips s t same whole =
-    record {
-      eight-chips = ap length (sym same) ∙ whole .eight-chips;
-      whole-chips = λ i h. subst (λ cs. WholeChip (getD cs i noChip)) same (whole .whole-chips i h);
-    }
 
 pub enable-set : (b : List ℕ) (high : Bool) → isImage b ≡ true → Holds (set b 1 (digit high)) (withEnable high (chainIn b))
 unfolding imageOf head withEnable

@@ -6,7 +6,7 @@ use borrow.Author.Needs.{needs}
 use borrow.Author.Tests.{not-true, not-false}
 use Rattle.refusal.specs.Numbers.{firstOf}
 use Rattle.refusal.specs.declared.Verdict.{Verdict}
-use Rattle.chain.specs.Refusals.{notBelow, whileLow, undefinedCommand}
+use Rattle.chain.specs.Refusals.{notBelowCount, whileIackIsLow, undefinedCommand}
 use Rattle.chain.proofs.Passed.{refused-at-first, left-to-the-rest}
 use Rattle.chain.proofs.refusals.command_verdict.Statement.{statement}
 use Rattle.chain.proofs.refusals.command_verdict.Tie as tie
@@ -19,16 +19,16 @@ is-accepted-requires c κs = search needs
 
 -- once the bus has accepted, the rest decides
 rest-decides : (c : tie.Else1) (r : Verdict) → r ≡ firstOf (undefinedCommand (c .before .before .before .args .code) ∷ [])
-    → r ≡ firstOf (notBelow (c .before .before .before .args .count) (c .before .before .before .args .i) ∷ whileLow (c .before .before .before .args .iack) ∷ undefinedCommand (c .before .before .before .args .code) ∷ [])
+    → r ≡ firstOf (notBelowCount (c .before .before .before .args .count) (c .before .before .before .args .i) ∷ whileIackIsLow (c .before .before .before .args .iack) ∷ undefinedCommand (c .before .before .before .args .code) ∷ [])
 rest-decides c r e =
     e ∙ sym
-    (left-to-the-rest (notBelow (c .before .before .before .args .count) (c .before .before .before .args .i) ∷ whileLow (c .before .before .before .args .iack) ∷ [])
+    (left-to-the-rest (notBelowCount (c .before .before .before .args .count) (c .before .before .before .args .i) ∷ whileIackIsLow (c .before .before .before .args .iack) ∷ [])
     (undefinedCommand (c .before .before .before .args .code) ∷ [])
     _ _ (c .before .before .bus-verdict .ensures) (c .before .is-accepted .ensures) (not-false _ (c .if1 .left)))
 
 returns : tie.Need-returns
 returns c =
-    refused-at-first (notBelow (c .before .before .before .args .count) (c .before .before .before .args .i) ∷ whileLow (c .before .before .before .args .iack) ∷ [])
+    refused-at-first (notBelowCount (c .before .before .before .args .count) (c .before .before .before .args .i) ∷ whileIackIsLow (c .before .before .before .args .iack) ∷ [])
     (undefinedCommand (c .before .before .before .args .code) ∷ [])
     _ _ (c .before .before .bus-verdict .ensures) (c .before .is-accepted .ensures) (not-true _ (c .if1 .taken))
 

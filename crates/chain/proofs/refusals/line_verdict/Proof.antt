@@ -6,7 +6,7 @@ use borrow.Author.Needs.{needs}
 use borrow.Author.Tests.{lt-ltb, le-ltb, not-true, not-false}
 use Rattle.refusal.specs.Numbers.{firstOf}
 use Rattle.refusal.specs.declared.Verdict.{Verdict}
-use Rattle.chain.specs.Refusals.{notBelow, noSuchChannel, noSuchLevel}
+use Rattle.chain.specs.Refusals.{notBelowCount, noSuchChannel, noSuchLevel}
 use Rattle.chain.proofs.Passed.{refused-at-first, left-to-the-rest}
 use Rattle.chain.proofs.refusals.line_verdict.Statement.{statement}
 use Rattle.chain.proofs.refusals.line_verdict.Tie as tie
@@ -20,16 +20,16 @@ is-accepted-requires c κs = search needs
 -- once the chip is below the count, the rest decides
 rest-decides : (c : tie.Else1) (r : Verdict)
     → r ≡ firstOf (noSuchChannel (c .before .before .before .args .channel) ∷ noSuchLevel (c .before .before .before .args .level) ∷ [])
-    → r ≡ firstOf (notBelow (c .before .before .before .args .count) (c .before .before .before .args .i) ∷ noSuchChannel (c .before .before .before .args .channel) ∷ noSuchLevel (c .before .before .before .args .level) ∷ [])
+    → r ≡ firstOf (notBelowCount (c .before .before .before .args .count) (c .before .before .before .args .i) ∷ noSuchChannel (c .before .before .before .args .channel) ∷ noSuchLevel (c .before .before .before .args .level) ∷ [])
 rest-decides c r e =
     e ∙ sym
-    (left-to-the-rest (notBelow (c .before .before .before .args .count) (c .before .before .before .args .i) ∷ [])
+    (left-to-the-rest (notBelowCount (c .before .before .before .args .count) (c .before .before .before .args .i) ∷ [])
     (noSuchChannel (c .before .before .before .args .channel) ∷ noSuchLevel (c .before .before .before .args .level) ∷ [])
     _ _ (c .before .before .chip-verdict .ensures) (c .before .is-accepted .ensures) (not-false _ (c .if1 .left)))
 
 returns : tie.Need-returns
 returns c =
-    refused-at-first (notBelow (c .before .before .before .args .count) (c .before .before .before .args .i) ∷ [])
+    refused-at-first (notBelowCount (c .before .before .before .args .count) (c .before .before .before .args .i) ∷ [])
     (noSuchChannel (c .before .before .before .args .channel) ∷ noSuchLevel (c .before .before .before .args .level) ∷ [])
     _ _ (c .before .before .chip-verdict .ensures) (c .before .is-accepted .ensures) (not-true _ (c .if1 .taken))
 
