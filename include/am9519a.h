@@ -72,7 +72,7 @@ uint8_t am9519a_candidate(uint8_t irr, uint8_t imr, uint8_t isr, uint8_t mode, u
  */
 #define AM9519A_IMAGE 528
 
-/* The chain's own bytes. Bytes 11 to 15 are 0. */
+/* First the chain's own bytes, the head. Bytes 11 to 15 are 0. */
 #define AM9519A_IMAGE_COUNT 0               /* of chips, 1 to 8 */
 #define AM9519A_IMAGE_ENABLE_IN 1           /* EI of chip 0, 0 or 1 */
 #define AM9519A_IMAGE_IACK 2                /* 0 or 1 */
@@ -85,9 +85,9 @@ uint8_t am9519a_candidate(uint8_t irr, uint8_t imr, uint8_t isr, uint8_t mode, u
 #define AM9519A_IMAGE_RESPONSE_DELIVERED 10 /* bytes driven so far, from 1 */
 
 /* Then eight records of 64 bytes, chip 0 first. Those past the count take part in nothing and are kept as they are. */
-#define AM9519A_RECORDS 16
-#define AM9519A_RECORD 64
-#define AM9519A_CHIP(i) (AM9519A_RECORDS + AM9519A_RECORD * (i))
+#define AM9519A_HEAD 16   /* bytes before the records */
+#define AM9519A_RECORD 64 /* bytes of each */
+#define AM9519A_CHIP(i) (AM9519A_HEAD + AM9519A_RECORD * (i))
 
 /* Within a record. Bytes 11 to 15 and 24 to 31 are 0. */
 #define AM9519A_CHIP_IRR 0
