@@ -7,7 +7,6 @@ ghost use Rattle.chip.specs.Acknowledge.{responseByte};
 ghost use Rattle.chain.specs.Fields.{chipAt, oneMore, withIack, withResponse};
 ghost use Rattle.chain.specs.Pulse.{answeringChip, selected, firstPulse, fallen, driven, fallAnswer, risenAfter, risen};
 ghost use Rattle.chain.specs.Sound.{sound};
-ghost use Rattle.chain.specs.declared.Answer.the-variants.{Byte};
 ghost use Rattle.chain.specs.declared.Response.the-variants.{UnderWay};
 ghost use Rattle.image.specs.Reading.{chainIn, isImage};
 use crate::pins::eo_at;
