@@ -20,7 +20,7 @@ use Rattle.run.specs.Run.{Report, brokenEvent, shortResults, runOf}
 use Rattle.image.specs.Layout.{imageOf, over}
 use Rattle.image.specs.Reading.{chainIn, isImage}
 
--- 1: not 528 bytes, or not of the layout
+-- 1: not 528 bytes, or not of the form
 abbrev pub notAnImage : List ℕ → Bool × Refusal
 notAnImage image = (not (isImage image), NotSound)
 

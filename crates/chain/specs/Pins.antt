@@ -3,6 +3,7 @@ use mathlib.Core.Bool.{Bool, true, false, not, _&&_, _||_}
 use Prim.Native.Nat.{ℕ, zero, suc}
 use lib.Dec.{eqb}
 use Rattle.chip.specs.Status.{isArmed, gintActive, gintPin}
+use Rattle.chip.specs.declared.Chip.{Chip}
 use Rattle.chain.specs.Fields.{chipAt}
 use Rattle.chain.specs.declared.Chain.{Chain}
 use Rattle.chain.specs.declared.Response.{Response}
@@ -19,8 +20,11 @@ isResponding Idle i = false
 isResponding (UnderWay r) i = eqb (r .chip) i
 
 -- EO of chip i at a level of its EI: low if EI is low, if M7 is clear, even when polled (D), or if the chip is responding; else high
+abbrev pub eoOf : Bool → Chip → Response → ℕ → Bool
+eoOf ei c response i = ei && isArmed c && not (isResponding response i)
+
 abbrev pub eoAt : Bool → Chain → ℕ → Bool
-eoAt ei s i = ei && isArmed (chipAt s i) && not (isResponding (s .response) i)
+eoAt ei s i = eoOf ei (chipAt s i) (s .response) i
 
 -- EI of chip 0 is the chain's; EI of another is EO of the chip before
 unfoldable pub ei : Chain → ℕ → Bool

@@ -1,9 +1,10 @@
 // The pins of a chain, none of them stored: each is worked out from the state. A level is true where it is high.
 ghost use mathlib.Core.Path.{_≡_};
 ghost use Prim.Native.Nat.{_<_};
-ghost use Rattle.chain.specs.Pins.{isIdle, isResponding, eoAt, ei, rip, pause};
+ghost use Rattle.chain.specs.Pins.{isIdle, isResponding, eoOf, eoAt, ei, rip, pause};
 use crate::Chain;
 use crate::Response;
+use chip::Chip;
 
 impl Response {
     // Whether no response is under way.
@@ -17,7 +18,7 @@ impl Response {
     }
 
     // Whether chip i is responding.
-    pub fn is_of(self, i: u8) -> bool
+    pub(crate) fn is_of(self, i: u8) -> bool
         ensures { λ r. ⌜ r ≡ isResponding self i ⌝ }
     {
         match self {
@@ -25,17 +26,23 @@ impl Response {
             Response::UnderWay(r) => r.chip == i,
         }
     }
+
+    // EO of chip i at a level of its EI, with this response: low if EI is low, if M7 is clear, or if the chip is responding.
+    pub fn eo_of(self, ei: bool, chip: Chip, i: u8) -> bool
+        ensures { λ r. ⌜ r ≡ eoOf ei chip self i ⌝ }
+    {
+        ei & chip.is_armed() & !self.is_of(i)
+    }
 }
 
 impl Chain {
-    // EO of chip i at a level of its EI: low if EI is low, if M7 is clear, or if the chip is responding.
+    // EO of chip i at a level of its EI.
     pub(crate) fn eo_at(self, ei: bool, i: u8) -> bool
         requires { ⌜ i < 8 ⌝ }
         ensures { λ r. ⌜ r ≡ eoAt ei self i ⌝ }
     {
-        let chip = self.chip_at(i);
         let response = self.response;
-        ei & chip.is_armed() & !response.is_of(i)
+        response.eo_of(ei, self.chip_at(i), i)
     }
 
     // EI of chip 0 is the chain's; EI of another is EO of the chip before.

@@ -19,7 +19,7 @@ use Rattle.am9519a.specs.Calls.{RunCalled, tableBytes, pictureBytes, startCall,
 use Rattle.demands.specs.Agree.{gintReadsActive}
 use Rattle.demands.specs.Table.{Entry, given, chainNotSound, chipNotBelow, runEntries, lastEntries}
 
--- 1 is also for what is no image: another length than 528, or not of the layout
+-- 1 is also for what is no image: another length than 528, or not of the form
 abbrev pub noImage : List ℕ → Entry
 noImage image = (1, not (isImage image))
 

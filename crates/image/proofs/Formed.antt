@@ -9,9 +9,9 @@ use native.Mathlib.Omega.{arith}
 use lib.Dec.{eqb, leb, ltb}
 use lib.ListN.{length, getD, take, drop, replicate, length-append, length-take, length-drop, take-append-drop}
 use lib.Seq.{take-all, take-add, drop-at, drop-cons, drop-drop, drop-append-add}
-use borrow.Author.Tests.{eqb-true, leb-true, ltb-true, lt-ltb}
+use borrow.Author.Tests.{eqb-true, leb-true, ltb-true, le-leb, lt-ltb}
 use Rattle.bits.specs.Below.{digit}
-use Rattle.bits.proofs.Below.{either, both-left, both-right}
+use Rattle.bits.proofs.Below.{digit-lt, either, both-left, both-right}
 use Rattle.chip.specs.Fields.{noChip}
 use Rattle.chip.specs.declared.Chip.{Chip}
 use Rattle.chip.specs.declared.Destination.{Destination}
@@ -142,8 +142,7 @@ records-again (suc n) b long each =
     ∙ take-append-drop 64 b
 
 level-low : (high : Bool) → leb (digit high) 1 ≡ true
-level-low true = refl
-level-low false = refl
+level-low high = le-leb (digit high) 1 (le-of-suc-le-suc (digit-lt high))
 
 -- a head that was written is of the form
 pub head-formed : (count : ℕ) (enable iack : Bool) (low high : ℕ) (r : Response) (rest : List ℕ) → low < 256 →

@@ -16,9 +16,8 @@ pub(crate) fn eo_at(image: &[u8], ei: bool, i: u8) -> bool
     requires { ⌜ i < 8 ⌝ }
     ensures { λ r. ⌜ r ≡ eoAt ei (chainIn (now (image .entry))) i ⌝ }
 {
-    let chip = chip_at(image, i);
     let response = response_in(image);
-    ei & chip.is_armed() & !response.is_of(i)
+    response.eo_of(ei, chip_at(image, i), i)
 }
 
 // EI of chip 0 is the chain's; EI of another is EO of the chip before.

@@ -7,14 +7,11 @@ use Rattle.chain.proofs.Chain.eo_at.Tie as tie
 chip-at-requires : tie.Need-chip-at-requires
 chip-at-requires c κs = search needs
 
-is-armed-requires : tie.Need-is-armed-requires
-is-armed-requires c κs = search needs
-
-is-of-requires : tie.Need-is-of-requires
-is-of-requires c κs = search needs
+eo-of-requires : tie.Need-eo-of-requires
+eo-of-requires c κs = search needs
 
 returns : tie.Need-returns
-returns c = simp (← c .before .before .chip-at .ensures, c .before .is-armed .ensures, c .is-of .ensures)
+returns c = simp (← c .before .chip-at .ensures, c .eo-of .ensures)
 
 pub eo-at-spec : {M : Type 1} → statement M
-eo-at-spec = tie.close (tie.spec chip-at-requires is-armed-requires is-of-requires returns)
+eo-at-spec = tie.close (tie.spec chip-at-requires eo-of-requires returns)
