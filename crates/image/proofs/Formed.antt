@@ -9,7 +9,7 @@ use native.Mathlib.Omega.{arith}
 use lib.Dec.{eqb, leb, ltb}
 use lib.ListN.{length, getD, take, drop, replicate, length-append, length-take, length-drop, take-append-drop}
 use lib.Seq.{take-all, take-add, drop-at, drop-cons, drop-drop, drop-append-add}
-use borrow.Author.Tests.{eqb-true, leb-true, ltb-true, le-leb, lt-ltb}
+use borrow.Author.Tests.{eqb-true, ne-eqb, leb-true, le-leb, lt-leb, ltb-true, lt-ltb}
 use Rattle.bits.specs.Below.{digit}
 use Rattle.bits.proofs.Below.{digit-lt, either, both-left, both-right}
 use Rattle.chip.specs.Fields.{noChip}
@@ -20,7 +20,7 @@ use Rattle.chain.specs.declared.Response.{Response}
 use Rattle.chain.specs.declared.Response.the-variants.{Idle, UnderWay}
 use Rattle.image.specs.Layout.{destinationBytes, registerBytes, chipRecord, responseBytes, head, records}
 use Rattle.image.specs.OneToOne.{WholeChip}
-use Rattle.image.specs.Reading.{byte, destinationIn, chipIn, chipsIn, responseIn, chainIn, isZero, headForm, recordForm}
+use Rattle.image.specs.Reading.{byte, destinationIn, chipIn, chipsIn, responseIn, chainIn, isZero, responseForm, destinationForm, headForm, recordForm}
 use Rattle.image.proofs.Lists.{zero-is}
 use Rattle.image.proofs.Records.{registers-sixteen, record-length}
 
@@ -49,11 +49,6 @@ other : (a b : Bool) → a || b ≡ true → a ≡ false → b ≡ true
 other true b h first = absurd (false≢true (sym first))
 other false b h first = h
 
--- a test that tells
-decided : {A : Type 0} (t : Bool) → (t ≡ true → A) → (t ≡ false → A) → A
-decided true if-so if-not = if-so refl
-decided false if-so if-not = if-not refl
-
 -- a level that was read, written again
 level-again : (v : ℕ) → leb v 1 ≡ true → digit (eqb v 1) ≡ v
 level-again zero h = refl
@@ -62,13 +57,14 @@ level-again (suc (suc v)) h =
     let low : suc (suc v) ≤ 1 = leb-true (suc (suc v)) 1 h in
     absurd (omega (arith, low))
 
-response-again : (b : List ℕ) → 16 ≤ length b → eqb (byte b 5) 1 || isZero (take 6 (drop 5 b)) ≡ true → responseBytes (responseIn b) ≡ listed 5 6 b
+response-again : (b : List ℕ) → 16 ≤ length b → responseForm (take 6 (drop 5 b)) ≡ true → responseBytes (responseIn b) ≡ listed 5 6 b
 unfolding responseIn
 response-again b long is =
+    let there : take 6 (drop 5 b) ≡ listed 5 6 b = take-listed b 5 6 (omega (arith, long)) in
     either (λ r. responseBytes r ≡ listed 5 6 b) (eqb (byte b 5) 1)
     (UnderWay (record { chip = byte b 6; channel = byte b 7; level = byte b 8; length = byte b 9; delivered = byte b 10 })) Idle
     (λ one. ap (λ (v : ℕ). v ∷ byte b 6 ∷ byte b 7 ∷ byte b 8 ∷ byte b 9 ∷ byte b 10 ∷ []) (sym (eqb-true (byte b 5) 1 one)))
-    (λ idle. sym (zero-listed b 5 6 (omega (arith, long)) (other (eqb (byte b 5) 1) (isZero (take 6 (drop 5 b))) is idle)))
+    (λ idle. sym (zero-is (listed 5 6 b) (other _ _ (ap responseForm (sym there) ∙ is) idle)))
 
 -- the head that was read, written again
 pub head-again : (b : List ℕ) → 16 ≤ length b → headForm b ≡ true → head (chainIn b) ≡ take 16 b
@@ -77,7 +73,7 @@ head-again b long is =
     let low : Bool = ltb (byte b 3) 256 in
     let enable : Bool = leb (byte b 1) 1 in
     let iack : Bool = leb (byte b 2) 1 in
-    let response : Bool = eqb (byte b 5) 1 || isZero (take 6 (drop 5 b)) in
+    let response : Bool = responseForm (take 6 (drop 5 b)) in
     let rest : Bool = isZero (take 5 (drop 11 b)) in
     let four = both-left (low && enable && iack && response) rest is in
     let three = both-left (low && enable && iack) response four in
@@ -93,36 +89,28 @@ head-again b long is =
     (sym (zero-listed b 11 5 (omega (arith, long)) (both-right (low && enable && iack && response) rest is)))
     ∙ sym (take-listed b 0 16 (omega (arith, long)))
 
--- no level: nothing behind it
-no-level : (k l p : ℕ) → k ≤ 2 → l ∷ p ∷ [] ≡ 0 ∷ 0 ∷ [] → destinationBytes (destinationIn k l p) ≡ k ∷ l ∷ p ∷ []
-no-level zero l p h is = ap (λ rest. 0 ∷ rest) (sym is)
-no-level (suc zero) l p h is = ap (λ rest. 1 ∷ rest) (sym is)
-no-level (suc (suc zero)) l p h is = ap (λ rest. 2 ∷ rest) (sym is)
-no-level (suc (suc (suc k))) l p h is = absurd (omega (arith, h))
-
-destination-again : (r : List ℕ) → 64 ≤ length r → eqb (byte r 8) 3 || leb (byte r 8) 2 && isZero (take 2 (drop 9 r)) ≡ true →
-    destinationBytes (destinationIn (byte r 8) (byte r 9) (byte r 10)) ≡ listed 8 3 r
-destination-again r long is =
-    decided (eqb (byte r 8) 3)
-    (λ three.
-    let kind : byte r 8 ≡ 3 = eqb-true (byte r 8) 3 three in
-    ap (λ (k : ℕ). destinationBytes (destinationIn k (byte r 9) (byte r 10))) kind ∙ ap (λ (k : ℕ). k ∷ byte r 9 ∷ byte r 10 ∷ []) (sym kind))
-    (λ level-not.
-    let both = other (eqb (byte r 8) 3) (leb (byte r 8) 2 && isZero (take 2 (drop 9 r))) is level-not in
-    no-level (byte r 8) (byte r 9) (byte r 10) (leb-true (byte r 8) 2 (both-left (leb (byte r 8) 2) (isZero (take 2 (drop 9 r))) both))
-    (zero-listed r 9 2 (omega (arith, long)) (both-right (leb (byte r 8) 2) (isZero (take 2 (drop 9 r))) both)))
+-- a destination that was read, written again; above 3 there is none
+destination-again : (k l p : ℕ) → destinationForm (k ∷ l ∷ p ∷ []) ≡ true → destinationBytes (destinationIn k l p) ≡ k ∷ l ∷ p ∷ []
+destination-again zero l p is = ap (λ rest. 0 ∷ rest) (sym (zero-is (l ∷ p ∷ []) is))
+destination-again (suc zero) l p is = ap (λ rest. 1 ∷ rest) (sym (zero-is (l ∷ p ∷ []) is))
+destination-again (suc (suc zero)) l p is = ap (λ rest. 2 ∷ rest) (sym (zero-is (l ∷ p ∷ []) is))
+destination-again (suc (suc (suc zero))) l p is = refl
+destination-again (suc (suc (suc (suc k)))) l p is =
+    absurd (false≢true
+    (sym (ap₂ (λ level low. level || low && isZero (l ∷ p ∷ [])) (ne-eqb (suc (suc (suc (suc k)))) 3 (λ e. omega (arith, e))) (lt-leb (suc (suc (suc (suc k)))) _ (omega arith)))
+    ∙ is))
 
 -- a record that was read, written again
 record-again : (r : List ℕ) → 64 ≤ length r → recordForm r ≡ true → chipRecord (chipIn r) ≡ take 64 r
 unfolding chipRecord chipIn recordForm
 record-again r long is =
-    let kind : Bool = eqb (byte r 8) 3 || leb (byte r 8) 2 && isZero (take 2 (drop 9 r)) in
+    let kind : Bool = destinationForm (take 3 (drop 8 r)) in
     let gap : Bool = isZero (take 5 (drop 11 r)) in
     let behind : Bool = isZero (take 8 (drop 24 r)) in
     let two = both-left (kind && gap) behind is in
     let registers : registerBytes (chipIn r) ≡ take 16 r =
     ap₂ (λ d z. byte r 0 ∷ byte r 1 ∷ byte r 2 ∷ byte r 3 ∷ byte r 4 ∷ byte r 5 ∷ byte r 6 ∷ byte r 7 ∷ d ++ z)
-    (destination-again r long (both-left kind gap two))
+    (destination-again (byte r 8) (byte r 9) (byte r 10) (ap destinationForm (sym (take-listed r 8 3 (omega (arith, long)))) ∙ both-left kind gap two))
     (sym (zero-listed r 11 5 (omega (arith, long)) (both-right kind gap two)))
     ∙ sym (take-listed r 0 16 (omega (arith, long))) in
     ap₂ (λ front zeros. front ++ take 8 (drop 16 r) ++ zeros ++ take 32 (drop 32 r)) registers
@@ -152,9 +140,7 @@ head-formed count enable iack low high Idle rest below = simp (level-low enable,
 head-formed count enable iack low high (UnderWay r) rest below = simp (level-low enable, level-low iack, lt-ltb low 256 below)
 
 destination-formed : (d : Destination) (p q r t : List ℕ) →
-    (eqb (byte (destinationBytes d ++ replicate 5 0 ++ p ++ q ++ r ++ t) 0) 3
-    || leb (byte (destinationBytes d ++ replicate 5 0 ++ p ++ q ++ r ++ t) 0) 2 && isZero (take 2 (drop 1 (destinationBytes d ++ replicate 5 0 ++ p ++ q ++ r ++ t))))
-    && isZero (take 5 (drop 3 (destinationBytes d ++ replicate 5 0 ++ p ++ q ++ r ++ t)))
+    destinationForm (take 3 (destinationBytes d ++ replicate 5 0 ++ p ++ q ++ r ++ t)) && isZero (take 5 (drop 3 (destinationBytes d ++ replicate 5 0 ++ p ++ q ++ r ++ t)))
     ≡ true
 destination-formed Nowhere p q r t = refl
 destination-formed Imr p q r t = refl

@@ -64,18 +64,23 @@ abbrev pub isZero : List ℕ → Bool
 isZero [] = true
 isZero (x ∷ xs) = eqb x 0 && isZero xs
 
--- The form of the head: Enable In and IACK are 0 or 1, byte 5 is 1 or 5 to 10 are zero, 11 to 15 are zero.
+-- a response's six bytes: the first is 1, or all are zero
+abbrev pub responseForm : List ℕ → Bool
+responseForm b = eqb (byte b 0) 1 || isZero b
+
+-- a destination's three bytes: the first is 3, or it is at most 2 and the others are zero
+abbrev pub destinationForm : List ℕ → Bool
+destinationForm b = eqb (byte b 0) 3 || leb (byte b 0) 2 && isZero (drop 1 b)
+
+-- The form of the head: Enable In and IACK are 0 or 1, 5 to 10 are a response, 11 to 15 are zero.
 -- Byte 3 is below 256 in whatever can be lent; of a list of numbers it has to be said.
 unfoldable pub headForm : List ℕ → Bool
 headForm b =
-    ltb (byte b 3) 256 && leb (byte b 1) 1 && leb (byte b 2) 1
-    && (eqb (byte b 5) 1 || isZero (take 6 (drop 5 b))) && isZero (take 5 (drop 11 b))
+    ltb (byte b 3) 256 && leb (byte b 1) 1 && leb (byte b 2) 1 && responseForm (take 6 (drop 5 b)) && isZero (take 5 (drop 11 b))
 
--- The form of a chip record: byte 8 is 3, or it is at most 2 and 9 and 10 are zero; 11 to 15 and 24 to 31 are zero.
+-- The form of a chip record: 8 to 10 are a destination, 11 to 15 and 24 to 31 are zero.
 unfoldable pub recordForm : List ℕ → Bool
-recordForm r =
-    (eqb (byte r 8) 3 || leb (byte r 8) 2 && isZero (take 2 (drop 9 r)))
-    && isZero (take 5 (drop 11 r)) && isZero (take 8 (drop 24 r))
+recordForm r = destinationForm (take 3 (drop 8 r)) && isZero (take 5 (drop 11 r)) && isZero (take 8 (drop 24 r))
 
 -- each of the eight records
 unfoldable pub recordsForm : List ℕ → Bool
