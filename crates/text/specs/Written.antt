@@ -42,3 +42,8 @@ hexDigit value = cond (ltb value 10) (48 + value) (55 + value)
 -- a byte as two hex digits
 unfoldable pub hexByte : ℕ → List ℕ
 hexByte byte = hexDigit (byte / 16) then hexDigit (byte % 16) then none
+
+-- parts, one behind the other
+abbrev pub joined : List (List ℕ) → List ℕ
+joined none = none
+joined (part then parts) = part ++ joined parts

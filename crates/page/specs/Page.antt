@@ -1,0 +1,85 @@
+-- What a page says of a state: the event, and for each chip in the count its pins and its registers, with one event number.
+use mathlib.Core.Bool.{cond}
+use mathlib.Core.List.{List, [], _∷_, _++_}
+use Prim.Native.Nat.{ℕ, zero, suc, _+_}
+use Prim.Native.String.{String}
+use lib.Dec.{eqb}
+use Rattle.chain.specs.Views.{registerView, pinView}
+use Rattle.chain.specs.declared.Answer.{Answer}
+use Rattle.chain.specs.declared.Answer.the-variants.{Done, Byte, Refused}
+use Rattle.chain.specs.declared.Chain.{Chain}
+use Rattle.chain.specs.declared.PinView.{PinView}
+use Rattle.chain.specs.declared.PinView.the-variants.{Picture, NoPicture}
+use Rattle.chain.specs.declared.Pins.{Pins}
+use Rattle.chain.specs.declared.RegisterView.{RegisterView}
+use Rattle.chain.specs.declared.RegisterView.the-variants.{Table, NoTable}
+use Rattle.chain.specs.declared.Registers.{Registers}
+use Rattle.steps.specs.Kinds.{nameOf}
+use Rattle.steps.specs.declared.Kind.{Kind}
+use Rattle.text.specs.Written.{text, decimal, hexByte, joined}
+
+-- a name, and a number in decimal or a byte in hex
+abbrev pub field : String → ℕ → List ℕ
+field name n = text name ++ decimal n
+
+abbrev pub byteField : String → ℕ → List ℕ
+byteField name byte = text name ++ hexByte byte
+
+-- GINT is `z` where it is released
+abbrev pub gintField : ℕ → List ℕ
+gintField gint = cond (eqb gint 2) (text " GINT z") (field " GINT " gint)
+
+-- a line begins with its name, the event's number and the chip's
+abbrev pub heading : List ℕ → ℕ → ℕ → List (List ℕ)
+heading name event i = (name ++ decimal event) ∷ field " chip " i ∷ []
+
+-- pins N chip I EI e EO o GINT g RIP r PAUSE p IACK i
+abbrev pub chipPins : Pins → List (List ℕ)
+chipPins p = field " EI " (p .ei) ∷ field " EO " (p .eo) ∷ gintField (p .gint) ∷ []
+
+abbrev pub chainPins : Pins → List (List ℕ)
+chainPins p = field " RIP " (p .rip) ∷ field " PAUSE " (p .pause) ∷ field " IACK " (p .iack) ∷ []
+
+abbrev pub pinsParts : ℕ → Pins → List (List ℕ)
+pinsParts i p = joined (heading (text "pins ") (p .event) i) ∷ joined (chipPins p) ∷ joined (chainPins p) ∷ text "\n" ∷ []
+
+-- registers N chip I IRR hh ISR hh IMR hh ACR hh MODE hh STATUS hh WAITING n
+abbrev pub requestBytes : Registers → List (List ℕ)
+requestBytes r = byteField " IRR " (r .irr) ∷ byteField " ISR " (r .isr) ∷ byteField " IMR " (r .imr) ∷ byteField " ACR " (r .acr) ∷ []
+
+abbrev pub stateFields : Registers → List (List ℕ)
+stateFields r = byteField " MODE " (r .mode) ∷ byteField " STATUS " (r .status) ∷ field " WAITING " (r .waiting) ∷ []
+
+abbrev pub registersParts : ℕ → Registers → List (List ℕ)
+registersParts i r = joined (heading (text "registers ") (r .event) i) ∷ joined (requestBytes r) ∷ joined (stateFields r) ∷ text "\n" ∷ []
+
+-- the two lines of chip i are its two views; a view that is refused has no line
+unfoldable pub pinsLine : ℕ → PinView → List ℕ
+pinsLine i (Picture p) = joined (pinsParts i p)
+pinsLine i (NoPicture why) = []
+
+unfoldable pub registersLine : ℕ → RegisterView → List ℕ
+registersLine i (Table r) = joined (registersParts i r)
+registersLine i (NoTable why) = []
+
+abbrev pub chipLines : ℕ → Chain → List ℕ
+chipLines i s = pinsLine i (pinView i s) ++ registersLine i (registerView i s)
+
+-- as many chips, from one on
+abbrev pub chipsFrom : ℕ → ℕ → Chain → List ℕ
+chipsFrom zero i s = []
+chipsFrom (suc more) i s = chipLines i s ++ chipsFrom more (i + 1) s
+
+-- event N KIND accepted, and the byte where one was driven or read
+abbrev pub byteText : Answer → List ℕ
+byteText Done = []
+byteText (Byte b) = byteField " byte " b
+byteText (Refused why) = []
+
+abbrev pub eventParts : Kind → Answer → ℕ → List (List ℕ)
+eventParts kind answer event =
+    field "event " event ∷ text " " ∷ text (nameOf kind) ∷ text " accepted" ∷ byteText answer ∷ text "\n" ∷ []
+
+-- the page after an accepted step
+unfoldable pub pageOf : Kind → Answer → Chain → List ℕ
+pageOf kind answer s = joined (eventParts kind answer (s .event)) ++ chipsFrom (s .count) 0 s

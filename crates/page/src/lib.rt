@@ -1,0 +1,69 @@
+// What a page says of a state: the event, and for each chip in the count the line of its pins and the line of its registers, all with one event number.
+// A page is written into a lent buffer. The page stands here, its lines in lines.rt, and what lines are made of in fields.rt.
+pub mod fields;
+pub mod lines;
+
+ghost use mathlib.Core.Path.{_≡_};
+ghost use Rattle.page.specs.Page.{chipsFrom, chipLines, byteText, eventParts, pageOf};
+ghost use Rattle.text.specs.Written.{joined, written};
+use crate::fields::put_byte_field;
+use crate::fields::put_field;
+use crate::fields::put_name;
+use crate::lines::put_pins_line;
+use crate::lines::put_registers_line;
+use chain::Answer;
+use chain::Chain;
+use steps::Kind;
+use text::put::put;
+
+// The page after an accepted step.
+pub fn put_page(to: &mut [u8], at: usize, kind: Kind, answer: Answer, chain: Chain) -> usize
+    ensures { λ r. ⌜ (now (to .exit), r) ≡ written (now (to .entry), at) (pageOf kind answer chain) ⌝ }
+{
+    let next = put_event(to, at, kind, answer, chain.event);
+    put_chips(to, next, chain)
+}
+
+// event N KIND accepted, and the byte where one was driven or read.
+fn put_event(to: &mut [u8], at: usize, kind: Kind, answer: Answer, event: u16) -> usize
+    ensures { λ r. ⌜ (now (to .exit), r) ≡ written (now (to .entry), at) (joined (eventParts kind answer event)) ⌝ }
+{
+    let next = put_field(to, at, b"event ", event as u64);
+    let next = put(to, next, b" ");
+    let next = put_name(to, next, kind);
+    let next = put(to, next, b" accepted");
+    let next = put_byte(to, next, answer);
+    put(to, next, b"\n")
+}
+
+// The byte that an answer has.
+fn put_byte(to: &mut [u8], at: usize, answer: Answer) -> usize
+    ensures { λ r. ⌜ (now (to .exit), r) ≡ written (now (to .entry), at) (byteText answer) ⌝ }
+{
+    match answer {
+        Answer::Done => at,
+        Answer::Byte(b) => put_byte_field(to, at, b" byte ", b),
+        Answer::Refused(_) => at,
+    }
+}
+
+// Two lines for each chip in the count.
+fn put_chips(to: &mut [u8], at: usize, chain: Chain) -> usize
+    ensures { λ r. ⌜ (now (to .exit), r) ≡ written (now (to .entry), at) (chipsFrom (chain .count) 0 chain) ⌝ }
+{
+    let mut next = at;
+    for i in 0u8..chain.count {
+        next = put_chip(to, next, i, chain);
+    }
+    next
+}
+
+// The two lines of a chip are its two views.
+fn put_chip(to: &mut [u8], at: usize, i: u8, chain: Chain) -> usize
+    ensures { λ r. ⌜ (now (to .exit), r) ≡ written (now (to .entry), at) (chipLines i chain) ⌝ }
+{
+    let picture = chain.pin_view(i);
+    let table = chain.register_view(i);
+    let next = put_pins_line(to, at, i, picture);
+    put_registers_line(to, next, i, table)
+}
