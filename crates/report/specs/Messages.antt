@@ -10,13 +10,17 @@ use Rattle.steps.specs.declared.Argument.{Argument}
 use Rattle.steps.specs.declared.Argument.the-variants.{Count, Fill, Chip, Code, Byte, Channel, Level, End}
 use Rattle.steps.specs.declared.Expected.{Expected}
 use Rattle.steps.specs.declared.Expected.the-variants.{Shorter, TheStart, AnEvent, Wanted}
+use Rattle.steps.specs.declared.Form.{Form}
 use Rattle.steps.specs.declared.Kind.{Kind}
 use Rattle.text.specs.Written.{text, joined}
 
 -- line L KIND refused R
+abbrev pub refusedParts : ℕ → Kind → ℕ → List (List ℕ)
+refusedParts line kind number =
+    field "line " line ∷ text " " ∷ text (nameOf kind) ∷ field " refused " number ∷ text "\n" ∷ []
+
 unfoldable pub refusedLine : ℕ → Kind → Refusal → List ℕ
-refusedLine line kind why =
-    joined (field "line " line ∷ text " " ∷ text (nameOf kind) ∷ field " refused " (refusalNumber why) ∷ text "\n" ∷ [])
+refusedLine line kind why = joined (refusedParts line kind (refusalNumber why))
 
 -- an argument's name
 abbrev pub slot : Argument → String
@@ -41,9 +45,8 @@ help Level = " (a level, 0 or 1)"
 help End = " the end of the line, or a comment with #"
 
 -- a step's form: its name, and the names of its arguments
-abbrev pub formParts : Kind → List (List ℕ)
-formParts kind =
-    text (nameOf kind) ∷ text (slot (formOf kind .first)) ∷ text (slot (formOf kind .second)) ∷ text (slot (formOf kind .third)) ∷ []
+abbrev pub formParts : Kind → Form → List (List ℕ)
+formParts kind form = text (nameOf kind) ∷ text (slot (form .first)) ∷ text (slot (form .second)) ∷ text (slot (form .third)) ∷ []
 
 -- an argument, and the form of the step in which it stands
 abbrev pub wantedParts : Kind → Argument → List (List ℕ)
@@ -52,7 +55,7 @@ wantedParts kind argument =
     ∷ text (slot argument)
     ∷ text (help argument)
     ∷ text ", as in: "
-    ∷ joined (formParts kind)
+    ∷ joined (formParts kind (formOf kind))
     ∷ []
 
 -- what should have stood there
@@ -65,5 +68,8 @@ expectedParts AnEvent =
 expectedParts (Wanted kind argument) = wantedParts kind argument
 
 -- line L malformed: and what was expected
+abbrev pub malformedParts : ℕ → Expected → List (List ℕ)
+malformedParts line expected = field "line " line ∷ text " malformed: " ∷ joined (expectedParts expected) ∷ text "\n" ∷ []
+
 unfoldable pub malformedLine : ℕ → Expected → List ℕ
-malformedLine line expected = joined (field "line " line ∷ text " malformed: " ∷ joined (expectedParts expected) ∷ text "\n" ∷ [])
+malformedLine line expected = joined (malformedParts line expected)

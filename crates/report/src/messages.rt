@@ -1,6 +1,7 @@
 // What ends a report before the list's end: a refusal, or what should have stood in a line.
 ghost use mathlib.Core.Path.{_≡_};
 ghost use Rattle.report.specs.Messages.{refusedLine, slot, help, formParts, wantedParts, expectedParts, malformedLine};
+ghost use Rattle.steps.specs.Kinds.{formOf};
 ghost use Rattle.text.specs.Written.{text, joined, written};
 use page::fields::put_field;
 use page::fields::put_name;
@@ -66,7 +67,7 @@ fn put_wanted(to: &mut [u8], at: usize, kind: Kind, argument: Argument) -> usize
 
 // A step's name, and the names of its arguments.
 fn put_form(to: &mut [u8], at: usize, kind: Kind) -> usize
-    ensures { λ r. ⌜ (now (to .exit), r) ≡ written (now (to .entry), at) (joined (formParts kind)) ⌝ }
+    ensures { λ r. ⌜ (now (to .exit), r) ≡ written (now (to .entry), at) (joined (formParts kind (formOf kind))) ⌝ }
 {
     let form = form_of(kind);
     let first = form.first;

@@ -14,23 +14,24 @@ use Rattle.bits.proofs.Below.{both-left, both-right, both-not}
 use Rattle.text.specs.Words.{passes, lead, same, isDigit, decimalFrom, decimalIn, twoDigits, hexIn}
 use Rattle.text.specs.declared.Number.{Number}
 use Rattle.text.specs.declared.Number.the-variants.{Value, Wrong}
+use Rattle.text.specs.declared.Sort.{Sort}
 
 -- what stands from a place on, where something does
 split : (l : List ℕ) (k : ℕ) → k < length l → drop k l ≡ getD l k 0 ∷ drop (k + 1) l
 split l k h = drop-cons l k 0 h ∙ ap (λ (n : ℕ). getD l k 0 ∷ drop n l) (sym (add-one k))
 
 -- a byte that passes is one more, one that does not is the end, as the end of the text is
-pub lead-more : (blanks : Bool) (l : List ℕ) (k : ℕ) → k < length l → passes blanks (getD l k 0) ≡ true → lead blanks (drop k l) ≡ lead blanks (drop (k + 1) l) + 1
-lead-more blanks l k h is =
-    ap (lead blanks) (split l k h)
-    ∙ ap (λ t. cond t (suc (lead blanks (drop (k + 1) l))) 0) is
-    ∙ sym (add-one (lead blanks (drop (k + 1) l)))
+pub lead-more : (sort : Sort) (l : List ℕ) (k : ℕ) → k < length l → passes sort (getD l k 0) ≡ true → lead sort (drop k l) ≡ lead sort (drop (k + 1) l) + 1
+lead-more sort l k h is =
+    ap (lead sort) (split l k h)
+    ∙ ap (λ t. cond t (suc (lead sort (drop (k + 1) l))) 0) is
+    ∙ sym (add-one (lead sort (drop (k + 1) l)))
 
-pub lead-stops : (blanks : Bool) (l : List ℕ) (k : ℕ) → k < length l → passes blanks (getD l k 0) ≡ false → lead blanks (drop k l) ≡ 0
-lead-stops blanks l k h is = ap (lead blanks) (split l k h) ∙ ap (λ t. cond t (suc (lead blanks (drop (k + 1) l))) 0) is
+pub lead-stops : (sort : Sort) (l : List ℕ) (k : ℕ) → k < length l → passes sort (getD l k 0) ≡ false → lead sort (drop k l) ≡ 0
+lead-stops sort l k h is = ap (lead sort) (split l k h) ∙ ap (λ t. cond t (suc (lead sort (drop (k + 1) l))) 0) is
 
-pub lead-ends : (blanks : Bool) (l : List ℕ) (k : ℕ) → length l ≤ k → lead blanks (drop k l) ≡ 0
-lead-ends blanks l k h = ap (lead blanks) (drop-of-length-le l h)
+pub lead-ends : (sort : Sort) (l : List ℕ) (k : ℕ) → length l ≤ k → lead sort (drop k l) ≡ 0
+lead-ends sort l k h = ap (lead sort) (drop-of-length-le l h)
 
 -- texts of one length are the same if their bytes are
 pub same-more : (a b : List ℕ) (k : ℕ) → k < length a → k < length b → getD a k 0 ≡ getD b k 0 → same (drop k a) (drop k b) ≡ same (drop (k + 1) a) (drop (k + 1) b)

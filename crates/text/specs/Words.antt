@@ -1,4 +1,4 @@
--- The words of a line, and the numbers that words say.
+-- The lines of a text, the words of a line, and the numbers that words say.
 use mathlib.Core.Bool.{Bool, true, false, cond, _&&_, _||_, not}
 use mathlib.Core.List.{List, [], _∷_}
 use Prim.Native.Nat.{ℕ, suc, _+_, _-_, _*_}
@@ -6,6 +6,8 @@ use lib.Dec.{leb, eqb}
 use lib.ListN.{take, drop}
 use Rattle.text.specs.declared.Number.{Number}
 use Rattle.text.specs.declared.Number.the-variants.{Value, Wrong}
+use Rattle.text.specs.declared.Sort.{Sort}
+use Rattle.text.specs.declared.Sort.the-variants.{Blank, Letter, Inside}
 
 -- blanks are the space and the tab
 abbrev pub isBlank : ℕ → Bool
@@ -15,22 +17,27 @@ isBlank c = eqb c 32 || eqb c 9
 abbrev pub isLetter : ℕ → Bool
 isLetter c = not (isBlank c || eqb c 35)
 
--- which of the two is looked for
-abbrev pub passes : Bool → ℕ → Bool
-passes true c = isBlank c
-passes false c = isLetter c
+-- the bytes that are looked for: blanks, letters of a word, or those inside a line, which are all but the line feed (10)
+abbrev pub passes : Sort → ℕ → Bool
+passes Blank c = isBlank c
+passes Letter c = isLetter c
+passes Inside c = not (eqb c 10)
 
--- how many bytes at the start of a text are blanks, or else letters
-abbrev pub lead : Bool → List ℕ → ℕ
-lead blanks [] = 0
-lead blanks (c ∷ cs) = cond (passes blanks c) (suc (lead blanks cs)) 0
+-- how many bytes at the start of a text are of a sort
+abbrev pub lead : Sort → List ℕ → ℕ
+lead sort [] = 0
+lead sort (c ∷ cs) = cond (passes sort c) (suc (lead sort cs)) 0
 
--- where the first word begins, and where it ends; both at one place if there is no word
+-- where the first line of a text ends
+unfoldable pub lineEnd : List ℕ → ℕ
+lineEnd text = lead Inside text
+
+-- where the first word of a line begins, and where it ends; both at one place if there is no word
 unfoldable pub wordStart : List ℕ → ℕ
-wordStart line = lead true line
+wordStart line = lead Blank line
 
 unfoldable pub wordEnd : List ℕ → ℕ
-wordEnd line = wordStart line + lead false (drop (wordStart line) line)
+wordEnd line = wordStart line + lead Letter (drop (wordStart line) line)
 
 -- the first word, and the rest of the line behind it
 unfoldable pub word : List ℕ → List ℕ

@@ -1,4 +1,4 @@
-// Text in lent buffers: written, as quoted words, decimal numbers and bytes in hex; and read, as words and the numbers that they say.
+// Text in lent buffers: written, as quoted words, decimal numbers and bytes in hex; and read, as lines, words and the numbers that words say.
 // Every call is answered for every input: what there is no room for is not written, and what is no number is told to be none.
 pub mod numbers;
 pub mod put;
@@ -8,4 +8,11 @@ pub mod words;
 pub enum Number {
     Value(u8),
     Wrong,
+}
+
+// Bytes that stand together: blanks, the letters of a word, or what is inside a line.
+pub enum Sort {
+    Blank,
+    Letter,
+    Inside,
 }

@@ -1,16 +1,25 @@
-// The words of a line: bytes that stand together, parted by blanks; a comment mark ends the last one.
+// The lines of a text, and the words of a line: bytes that stand together, parted by blanks; a comment mark ends the last one.
 ghost use mathlib.Core.Path.{_≡_};
 ghost use Prim.Native.Nat.{_+_, _≤_};
 ghost use lib.ListN.{length, drop};
-ghost use Rattle.text.specs.Words.{isBlank, isLetter, lead, wordStart, wordEnd};
+ghost use Rattle.text.specs.Words.{isBlank, isLetter, lead, lineEnd, wordStart, wordEnd};
 ghost use Rattle.text.specs.Words.{passes as Words·passes, same as Words·same};
+use crate::Sort;
+
+// Where the first line of a text ends: at its line feed, or at the end.
+pub fn line_end(text: &[u8]) -> usize
+    ensures { λ r. ⌜ r ≤ length (now (text .entry)) ⌝ }
+    ensures { λ r. ⌜ r ≡ lineEnd (now (text .entry)) ⌝ }
+{
+    past(text, 0, Sort::Inside)
+}
 
 // Where the first word of a line begins.
 pub fn word_start(line: &[u8]) -> usize
     ensures { λ r. ⌜ r ≤ length (now (line .entry)) ⌝ }
     ensures { λ r. ⌜ r ≡ wordStart (now (line .entry)) ⌝ }
 {
-    past(line, 0, true)
+    past(line, 0, Sort::Blank)
 }
 
 // Where it ends.
@@ -19,27 +28,31 @@ pub fn word_end(line: &[u8]) -> usize
     ensures { λ r. ⌜ wordStart (now (line .entry)) ≤ r ⌝ }
     ensures { λ r. ⌜ r ≡ wordEnd (now (line .entry)) ⌝ }
 {
-    past(line, word_start(line), false)
+    past(line, word_start(line), Sort::Letter)
 }
 
-// The place behind the blanks, or else the letters, that stand from a place on.
-fn past(line: &[u8], from: usize, blanks: bool) -> usize
+// The place behind the bytes of a sort that stand from a place on.
+fn past(line: &[u8], from: usize, sort: Sort) -> usize
     requires { ⌜ from ≤ length (now line) ⌝ }
     ensures { λ r. ⌜ from ≤ r ⌝ }
     ensures { λ r. ⌜ r ≤ length (now (line .entry)) ⌝ }
-    ensures { λ r. ⌜ r ≡ from + lead blanks (drop from (now (line .entry))) ⌝ }
+    ensures { λ r. ⌜ r ≡ from + lead sort (drop from (now (line .entry))) ⌝ }
 {
     let mut at = from;
-    while at < line.len() && passes(blanks, line[at]) {
+    while at < line.len() && passes(sort, line[at]) {
         at += 1;
     }
     at
 }
 
-fn passes(blanks: bool, c: u8) -> bool
-    ensures { λ r. ⌜ r ≡ Words·passes blanks c ⌝ }
+fn passes(sort: Sort, c: u8) -> bool
+    ensures { λ r. ⌜ r ≡ Words·passes sort c ⌝ }
 {
-    if blanks { is_blank(c) } else { is_letter(c) }
+    match sort {
+        Sort::Blank => is_blank(c),
+        Sort::Letter => is_letter(c),
+        Sort::Inside => c != 10,
+    }
 }
 
 fn is_blank(c: u8) -> bool

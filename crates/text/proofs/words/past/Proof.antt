@@ -11,10 +11,10 @@ use Rattle.text.proofs.words.past.Statement.{statement}
 use Rattle.text.proofs.words.past.Tie as tie
 
 abbrev Inv-loop : tie.InvT-loop
-Inv-loop line from blanks at₀ at = (from ≤ at) × (at ≤ length line) × (from + lead blanks (drop from line) ≡ at + lead blanks (drop at line))
+Inv-loop line from sort at₀ at = (from ≤ at) × (at ≤ length line) × (from + lead sort (drop from line) ≡ at + lead sort (drop at line))
 
 abbrev μ-loop : tie.MeasureT-loop
-μ-loop line from blanks at₀ at = length line - at
+μ-loop line from sort at₀ at = length line - at
 
 loop-holds : tie.Need-loop-holds Inv-loop μ-loop
 loop-holds c = (omega arith, c .before .pre, refl)
@@ -33,20 +33,20 @@ loop-less c = omega arith
 
 loop-again : tie.Need-loop-again Inv-loop μ-loop
 loop-again c =
-    let more : lead (c .before .before .before .before .before .before .args .blanks) (drop (c .before .before .before .before .loop .at) (c .before .before .before .before .before .before .args .line .now)) ≡ lead (c .before .before .before .before .before .before .args .blanks) (drop (c .before .before .before .before .loop .at + 1) (c .before .before .before .before .before .before .args .line .now)) + 1 =
-    lead-more (c .before .before .before .before .before .before .args .blanks) (c .before .before .before .before .before .before .args .line .now) (c .before .before .before .before .loop .at) (omega arith) (sym (c .before .passes .ensures) ∙ c .if1 .taken) in
+    let more : lead (c .before .before .before .before .before .before .args .sort) (drop (c .before .before .before .before .loop .at) (c .before .before .before .before .before .before .args .line .now)) ≡ lead (c .before .before .before .before .before .before .args .sort) (drop (c .before .before .before .before .loop .at + 1) (c .before .before .before .before .before .before .args .line .now)) + 1 =
+    lead-more (c .before .before .before .before .before .before .args .sort) (c .before .before .before .before .before .before .args .line .now) (c .before .before .before .before .loop .at) (omega arith) (sym (c .before .passes .ensures) ∙ c .if1 .taken) in
     (omega arith, omega arith, omega (arith, more, c .before .before .before .before .loop .inv .2))
 
 returns : tie.Need-returns Inv-loop μ-loop
 returns c =
-    let stops : lead (c .before .before .before .before .before .before .args .blanks) (drop (c .before .before .before .before .loop .at) (c .before .before .before .before .before .before .args .line .now)) ≡ 0 =
-    lead-stops (c .before .before .before .before .before .before .args .blanks) (c .before .before .before .before .before .before .args .line .now) (c .before .before .before .before .loop .at) (omega arith) (sym (c .before .passes .ensures) ∙ c .if1 .left) in
+    let stops : lead (c .before .before .before .before .before .before .args .sort) (drop (c .before .before .before .before .loop .at) (c .before .before .before .before .before .before .args .line .now)) ≡ 0 =
+    lead-stops (c .before .before .before .before .before .before .args .sort) (c .before .before .before .before .before .before .args .line .now) (c .before .before .before .before .loop .at) (omega arith) (sym (c .before .passes .ensures) ∙ c .if1 .left) in
     (c .before .before .before .before .loop .inv .0, (c .before .before .before .before .loop .inv .1, omega (arith, stops, c .before .before .before .before .loop .inv .2)))
 
 returns-2 : tie.Need-returns-2 Inv-loop μ-loop
 returns-2 c =
-    let ends : lead (c .before .before .before .args .blanks) (drop (c .before .loop .at) (c .before .before .before .args .line .now)) ≡ 0 =
-    lead-ends (c .before .before .before .args .blanks) (c .before .before .before .args .line .now) (c .before .loop .at) (omega arith) in
+    let ends : lead (c .before .before .before .args .sort) (drop (c .before .loop .at) (c .before .before .before .args .line .now)) ≡ 0 =
+    lead-ends (c .before .before .before .args .sort) (c .before .before .before .args .line .now) (c .before .loop .at) (omega arith) in
     (c .before .loop .inv .0, (c .before .loop .inv .1, omega (arith, ends, c .before .loop .inv .2)))
 
 pub past-spec : {M : Type 1} → statement M

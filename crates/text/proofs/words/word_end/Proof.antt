@@ -1,12 +1,12 @@
 -- `text::words::word_end` meets its contract.
 -- Assumes nothing.
-use mathlib.Core.Bool.{false}
 use mathlib.Core.Path.{_≡_, ap, _∙_}
 use Prim.Native.Nat.{ℕ, _+_}
 use native.Mathlib.Omega.{arith}
 use borrow.Author.Needs.{needs}
 use lib.ListN.{drop}
 use Rattle.text.specs.Words.{lead, wordStart, wordEnd}
+use Rattle.text.specs.declared.Sort.the-variants.{Letter}
 use Rattle.text.proofs.words.word_end.Statement.{statement}
 use Rattle.text.proofs.words.word_end.Tie as tie
 
@@ -23,7 +23,7 @@ returns c =
       c .past .ensures .1 .0,
       (
         omega (arith, start, c .past .ensures .0),
-        c .past .ensures .1 .1 ∙ ap (λ (k : ℕ). k + lead false (drop k (c .before .before .before .args .line .now))) start,
+        c .past .ensures .1 .1 ∙ ap (λ (k : ℕ). k + lead Letter (drop k (c .before .before .before .args .line .now))) start,
       ),
     )
 

@@ -1,0 +1,79 @@
+-- `report::Report::take_last` meets its contract.
+-- Assumes nothing.
+use mathlib.Core.Path.{sym, ap, _∙_}
+use Rattle.steps.specs.declared.Expected.the-variants.{TheStart}
+use Rattle.report.specs.Messages.{malformedLine}
+use Rattle.report.specs.Report.{reply, lastReply}
+use Rattle.report.proofs.Closed.{over, whole, lacks}
+use Rattle.text.specs.Written.{written}
+use Rattle.text.proofs.Written.{again, written-append}
+use borrow.Author.Needs.{needs}
+use Rattle.report.proofs.Report.take_last.Statement.{statement}
+use Rattle.report.proofs.Report.take_last.Tie as tie
+
+take-requires : tie.Need-take-requires
+take-requires c κs = search needs
+
+same-length : tie.Need-same-length
+same-length c = search needs
+
+returns : tie.Need-returns
+unfolding lastReply
+returns c = (
+  c .before .before .before .take .ensures .0 ∙ ap (λ s. s .report) (sym (over (reply (c .before .before .before .before .before .before .before .args .line .now) (c .before .before .before .before .before .before .before .args .self)) (c .before .before .before .before .before .before .before .args .self .line) (sym (c .before .before .before .take .ensures .1 .0) ∙ c .if1 .taken))),
+  (c .before .before .before .take .ensures .1 .0 ∙ ap (λ s. s .ended) (sym (over (reply (c .before .before .before .before .before .before .before .args .line .now) (c .before .before .before .before .before .before .before .args .self)) (c .before .before .before .before .before .before .before .args .self .line) (sym (c .before .before .before .take .ensures .1 .0) ∙ c .if1 .taken))), c .before .before .before .take .ensures .1 .1 ∙ ap (λ s. written (c .before .before .before .before .before .before .before .args .page .now, 0) (s .print)) (sym (over (reply (c .before .before .before .before .before .before .before .args .line .now) (c .before .before .before .before .before .before .before .args .self)) (c .before .before .before .before .before .before .before .args .self .line) (sym (c .before .before .before .take .ensures .1 .0) ∙ c .if1 .taken)))),
+)
+
+ends-requires : tie.Need-ends-requires
+ends-requires c κs = search needs
+
+same-length-2 : tie.Need-same-length-2
+same-length-2 c = search needs
+
+returns-2 : tie.Need-returns-2
+unfolding lastReply
+returns-2 c = (
+  ap (λ t. t .report) (c .ends .ensures) ∙ c .before .before .before .before .before .before .take .ensures .0 ∙ ap (λ s. s .report) (sym (whole (reply (c .before .before .before .before .before .before .before .before .before .before .args .line .now) (c .before .before .before .before .before .before .before .before .before .before .args .self)) (c .before .before .before .before .before .before .before .before .before .before .args .self .line) (sym (c .before .before .before .before .before .before .take .ensures .1 .0) ∙ c .before .before .before .if1 .left) (sym (ap (λ r. r .started) (c .before .before .before .before .before .before .take .ensures .0)) ∙ c .before .if2 .taken))),
+  (
+    ap (λ t. t .ended) (c .ends .ensures) ∙ ap (λ s. s .ended) (sym (whole (reply (c .before .before .before .before .before .before .before .before .before .before .args .line .now) (c .before .before .before .before .before .before .before .before .before .before .args .self)) (c .before .before .before .before .before .before .before .before .before .before .args .self .line) (sym (c .before .before .before .before .before .before .take .ensures .1 .0) ∙ c .before .before .before .if1 .left) (sym (ap (λ r. r .started) (c .before .before .before .before .before .before .take .ensures .0)) ∙ c .before .if2 .taken))),
+    ap (λ t. (c .before .before .before .before .before .before .take .last .1 .1 .0, t .length)) (c .ends .ensures) ∙ c .before .before .before .before .before .before .take .ensures .1 .1 ∙ ap (λ s. written (c .before .before .before .before .before .before .before .before .before .before .args .page .now, 0) (s .print)) (sym (whole (reply (c .before .before .before .before .before .before .before .before .before .before .args .line .now) (c .before .before .before .before .before .before .before .before .before .before .args .self)) (c .before .before .before .before .before .before .before .before .before .before .args .self .line) (sym (c .before .before .before .before .before .before .take .ensures .1 .0) ∙ c .before .before .before .if1 .left) (sym (ap (λ r. r .started) (c .before .before .before .before .before .before .take .ensures .0)) ∙ c .before .if2 .taken))),
+  ),
+)
+
+put-malformed-requires : tie.Need-put-malformed-requires
+put-malformed-requires c κs = search needs
+
+ends-requires-2 : tie.Need-ends-requires-2
+ends-requires-2 c κs = search needs
+
+same-length-3 : tie.Need-same-length-3
+same-length-3 c = search needs
+
+returns-3 : tie.Need-returns-3
+unfolding lastReply
+returns-3 c = (
+  ap (λ t. t .report) (c .ends2 .ensures) ∙ c .before .before .before .before .before .before .before .before .before .before .take .ensures .0 ∙ ap (λ s. s .report) (sym (lacks (reply (c .before .before .before .before .before .before .before .before .before .before .before .before .before .before .args .line .now) (c .before .before .before .before .before .before .before .before .before .before .before .before .before .before .args .self)) (c .before .before .before .before .before .before .before .before .before .before .before .before .before .before .args .self .line) (sym (c .before .before .before .before .before .before .before .before .before .before .take .ensures .1 .0) ∙ c .before .before .before .before .before .before .before .if1 .left) (sym (ap (λ r. r .started) (c .before .before .before .before .before .before .before .before .before .before .take .ensures .0)) ∙ c .before .before .before .before .before .if2 .left))),
+  (
+    ap (λ t. t .ended) (c .ends2 .ensures) ∙ ap (λ s. s .ended) (sym (lacks (reply (c .before .before .before .before .before .before .before .before .before .before .before .before .before .before .args .line .now) (c .before .before .before .before .before .before .before .before .before .before .before .before .before .before .args .self)) (c .before .before .before .before .before .before .before .before .before .before .before .before .before .before .args .self .line) (sym (c .before .before .before .before .before .before .before .before .before .before .take .ensures .1 .0) ∙ c .before .before .before .before .before .before .before .if1 .left) (sym (ap (λ r. r .started) (c .before .before .before .before .before .before .before .before .before .before .take .ensures .0)) ∙ c .before .before .before .before .before .if2 .left))),
+    ap (λ t. (c .before .before .before .put-malformed .last .0, t .length)) (c .ends2 .ensures)
+        ∙ c .before .before .before .put-malformed .ensures
+        ∙ again _ (c .before .before .before .before .before .before .before .before .before .before .take .ensures .1 .1)
+        ∙ sym (written-append (c .before .before .before .before .before .before .before .before .before .before .before .before .before .before .args .page .now, 0) ((reply (c .before .before .before .before .before .before .before .before .before .before .before .before .before .before .args .line .now) (c .before .before .before .before .before .before .before .before .before .before .before .before .before .before .args .self)) .print) (malformedLine (c .before .before .before .before .before .before .before .before .before .before .before .before .before .before .args .self .line) TheStart))
+        ∙ ap (λ s. written (c .before .before .before .before .before .before .before .before .before .before .before .before .before .before .args .page .now, 0) (s .print)) (sym (lacks (reply (c .before .before .before .before .before .before .before .before .before .before .before .before .before .before .args .line .now) (c .before .before .before .before .before .before .before .before .before .before .before .before .before .before .args .self)) (c .before .before .before .before .before .before .before .before .before .before .before .before .before .before .args .self .line) (sym (c .before .before .before .before .before .before .before .before .before .before .take .ensures .1 .0) ∙ c .before .before .before .before .before .before .before .if1 .left) (sym (ap (λ r. r .started) (c .before .before .before .before .before .before .before .before .before .before .take .ensures .0)) ∙ c .before .before .before .before .before .if2 .left))),
+  ),
+)
+
+pub take-last-spec : {M : Type 1} → statement M
+take-last-spec =
+    tie.close
+    (tie.spec
+    take-requires
+    same-length
+    returns
+    ends-requires
+    same-length-2
+    returns-2
+    put-malformed-requires
+    ends-requires-2
+    same-length-3
+    returns-3)
