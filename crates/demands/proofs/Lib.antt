@@ -8,6 +8,7 @@ pub mod FromC
 pub mod Kept
 pub mod Misread
 pub mod Outcomes
+pub mod Pages
 pub mod Performed
 pub mod Rules
 pub mod Runs

@@ -10,6 +10,7 @@ pub mod FromC
 pub mod Kept
 pub mod Misread
 pub mod Outcomes
+pub mod Pages
 pub mod Rules
 pub mod Runs
 pub mod Table

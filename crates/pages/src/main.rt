@@ -136,8 +136,8 @@ fn read_on(reading: Reading, piece: &mut [u8], line: &mut [u8], page: &mut [u8])
 
 fn main() {
     let mut piece = io::large_buffer();
-    let mut line = [0u8; 1025];
-    let mut page = io::buffer();
+    let mut line = [0u8; LONGEST + 1];
+    let mut page = [0u8; report::PAGE];
     let reading = Reading {
         report: Report::new(),
         filled: 0,

@@ -1,1 +1,4 @@
+pub mod Bounds
 pub mod Closed
+pub mod Tried
+pub mod Whole

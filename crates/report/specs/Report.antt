@@ -11,12 +11,10 @@ use Rattle.chain.specs.declared.Answer.the-variants.{Done, Byte, Refused}
 use Rattle.chain.specs.declared.Chain.{Chain}
 use Rattle.chain.specs.declared.Event.{Event}
 use Rattle.chain.specs.declared.Event.the-variants.{Command, Data, Status, Read, Line, Enable, Fall, Rise}
-use Rattle.chain.specs.declared.Outcome.{Outcome}
 use Rattle.report.specs.Messages.{malformedLine, refusedLine}
 use Rattle.page.specs.Page.{pageOf}
 use Rattle.report.specs.declared.Report.{Report}
 use Rattle.steps.specs.Lines.{stepOf}
-use Rattle.steps.specs.declared.Expected.{Expected}
 use Rattle.steps.specs.declared.Expected.the-variants.{TheStart}
 use Rattle.steps.specs.declared.Kind.{Kind}
 use Rattle.steps.specs.declared.Step.{Step}

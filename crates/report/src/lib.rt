@@ -18,6 +18,9 @@ use steps::Kind;
 use steps::Step;
 use steps::line::step_of;
 
+// A page of this many bytes has room for all that a line prints.
+pub const PAGE: usize = 16384;
+
 // What the lines so far have made: the number of the next line, whether the list has started, and its chain.
 pub struct Report {
     pub line: u64,

@@ -1,3 +1,4 @@
 pub mod Decimal
+pub mod Fits
 pub mod Reading
 pub mod Written

@@ -1,6 +1,6 @@
 -- `page::put_chip` meets its contract.
 -- Assumes nothing.
-use mathlib.Core.Path.{_≡_, sym, ap, ap₂, _∙_}
+use mathlib.Core.Path.{_≡_, sym, ap₂, _∙_}
 use Rattle.page.specs.Page.{pinsLine, registersLine}
 use Rattle.text.specs.Written.{written}
 use Rattle.text.proofs.Written.{again, written-append}

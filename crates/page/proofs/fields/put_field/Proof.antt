@@ -1,7 +1,7 @@
 -- `page::fields::put_field` meets its contract.
 -- Assumes nothing.
-use mathlib.Core.Path.{sym, ap, _∙_}
-use Rattle.text.specs.Written.{decimal, written}
+use mathlib.Core.Path.{sym, _∙_}
+use Rattle.text.specs.Written.{decimal}
 use Rattle.text.proofs.Written.{again, written-append}
 use borrow.Author.Needs.{needs}
 use Rattle.page.proofs.fields.put_field.Statement.{statement}

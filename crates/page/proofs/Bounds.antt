@@ -1,0 +1,128 @@
+-- How long a page may be.
+-- Assumes nothing.
+use mathlib.Core.Bool.{Bool, true, false, cond}
+use mathlib.Core.List.{List, _++_}
+use mathlib.Core.Path.{_≡_, refl, _∙_}
+use Prim.Native.Nat.{ℕ, zero, suc, _+_, _*_, _≤_}
+use Prim.Native.String.{String}
+use native.Mathlib.Omega.{arith}
+use lib.Dec.{eqb}
+use lib.ListN.{length, length-append}
+use Rattle.chain.proofs.Soundness.{count-le}
+use Rattle.chain.specs.Pins.{gint}
+use Rattle.chain.specs.Sound.{sound}
+use Rattle.chain.specs.Views.{registerView, pinView, tableOr, pictureOr}
+use Rattle.chain.specs.declared.Answer.{Answer}
+use Rattle.chain.specs.declared.Answer.the-variants.{Done, Byte, Refused}
+use Rattle.chain.specs.declared.Chain.{Chain}
+use Rattle.chain.specs.declared.PinView.{PinView}
+use Rattle.chain.specs.declared.PinView.the-variants.{Picture, NoPicture}
+use Rattle.chain.specs.declared.RegisterView.{RegisterView}
+use Rattle.chain.specs.declared.RegisterView.the-variants.{Table, NoTable}
+use Rattle.page.specs.Page.{field, byteField, gintField, heading, chipPins, chainPins, pinsParts, requestBytes, stateFields, registersParts, pinsLine, registersLine, chipLines, chipsFrom, byteText, eventParts, pageOf}
+use Rattle.steps.specs.Kinds.{nameOf}
+use Rattle.steps.specs.declared.Kind.{Kind}
+use Rattle.steps.specs.declared.Kind.the-variants.{Start, Command, Data, Status, Read, Line, Enable, Fall, Rise}
+use Rattle.text.proofs.Fits.{decimal-le, joined-le}
+use Rattle.text.specs.Written.{text, decimal, hexByte, joined}
+
+-- a name of at most twelve letters, and a number or a byte
+numbered-le : (name : List ℕ) (n : ℕ) → length name ≤ 12 → length (name ++ decimal n) ≤ 32
+numbered-le name n h = omega (arith, length-append name (decimal n), decimal-le n, h)
+
+pub field-le : (name : String) (n : ℕ) → length (text name) ≤ 12 → length (field name n) ≤ 32
+field-le name n h = numbered-le (text name) n h
+
+byte-le : (name : String) (byte : ℕ) → length (text name) ≤ 12 → length (byteField name byte) ≤ 32
+unfolding hexByte
+byte-le name byte h = omega (arith, length-append (text name) (hexByte byte), h)
+
+gint-le : (g : ℕ) → length (gintField g) ≤ 32
+gint-le g = either (eqb g 2)
+  where
+    either : (t : Bool) → length (cond t (text " GINT z") (field " GINT " g)) ≤ 32
+    either true = omega arith
+    either false = field-le " GINT " g (omega arith)
+
+heading-le : (name : List ℕ) (event i : ℕ) → length name ≤ 12 → length (joined (heading name event i)) ≤ 128
+heading-le name event i h = omega (arith, joined-le 32 (heading name event i) (numbered-le name event h, (field-le " chip " i (omega arith), tt)))
+
+-- a line of a chip
+pins-le : (i : ℕ) (v : PinView) → length (pinsLine i v) ≤ 512
+unfolding pinsLine
+pins-le i (Picture p) =
+    let chip : length (joined (chipPins p)) ≤ 128 =
+    omega (arith, joined-le 32 (chipPins p) (field-le " EI " (p .ei) (omega arith), (field-le " EO " (p .eo) (omega arith), (gint-le (p .gint), tt)))) in
+    let chain : length (joined (chainPins p)) ≤ 128 =
+    omega (arith, joined-le 32 (chainPins p) (field-le " RIP " (p .rip) (omega arith), (field-le " PAUSE " (p .pause) (omega arith), (field-le " IACK " (p .iack) (omega arith), tt)))) in
+    joined-le 128 (pinsParts i p) (heading-le (text "pins ") (p .event) i (omega arith), (chip, (chain, (omega arith, tt))))
+pins-le i (NoPicture why) = omega arith
+
+registers-le : (i : ℕ) (v : RegisterView) → length (registersLine i v) ≤ 512
+unfolding registersLine
+registers-le i (Table r) =
+    let requests : length (joined (requestBytes r)) ≤ 128 =
+    joined-le 32 (requestBytes r)
+    (byte-le " IRR " (r .irr) (omega arith), (byte-le " ISR " (r .isr) (omega arith), (byte-le " IMR " (r .imr) (omega arith), (byte-le " ACR " (r .acr) (omega arith), tt)))) in
+    let state : length (joined (stateFields r)) ≤ 128 =
+    omega (arith, joined-le 32 (stateFields r) (byte-le " MODE " (r .mode) (omega arith), (byte-le " STATUS " (r .status) (omega arith), (field-le " WAITING " (r .waiting) (omega arith), tt)))) in
+    joined-le 128 (registersParts i r) (heading-le (text "registers ") (r .event) i (omega arith), (requests, (state, (omega arith, tt))))
+registers-le i (NoTable why) = omega arith
+
+-- the lines of some chips
+chips-le : (n i : ℕ) (s : Chain) → length (chipsFrom n i s) ≤ n * 1024
+chips-le zero i s = omega arith
+chips-le (suc n) i s =
+    omega (
+      arith,
+      length-append (chipLines i s) (chipsFrom n (i + 1) s),
+      length-append (pinsLine i (pinView i s)) (registersLine i (registerView i s)),
+      pins-le i (pinView i s),
+      registers-le i (registerView i s),
+      chips-le n (i + 1) s,
+    )
+
+-- a chain that is not sound has no view
+no-line : (i : ℕ) (s : Chain) → sound s ≡ false → length (chipLines i s) ≡ 0
+unfolding pinView registerView pictureOr tableOr pinsLine registersLine
+no-line i s is = simp (is)
+
+no-lines : (n i : ℕ) (s : Chain) → sound s ≡ false → length (chipsFrom n i s) ≡ 0
+no-lines zero i s is = refl
+no-lines (suc n) i s is =
+    length-append (chipLines i s) (chipsFrom n (i + 1) s)
+    ∙ omega (arith, no-line i s is, no-lines n (i + 1) s is)
+
+chips-all : (s : Chain) → length (chipsFrom (s .count) 0 s) ≤ 8192
+chips-all s = either (sound s) refl
+  where
+    either : (t : Bool) → sound s ≡ t → length (chipsFrom (s .count) 0 s) ≤ 8192
+    either true is = omega (arith, chips-le (s .count) 0 s, count-le s is)
+    either false is = omega (arith, no-lines (s .count) 0 s is)
+
+pub name-le : (kind : Kind) → length (text (nameOf kind)) ≤ 32
+name-le Start = omega arith
+name-le Command = omega arith
+name-le Data = omega arith
+name-le Status = omega arith
+name-le Read = omega arith
+name-le Line = omega arith
+name-le Enable = omega arith
+name-le Fall = omega arith
+name-le Rise = omega arith
+
+answer-le : (answer : Answer) → length (byteText answer) ≤ 32
+answer-le Done = omega arith
+answer-le (Byte b) = byte-le " byte " b (omega arith)
+answer-le (Refused why) = omega arith
+
+-- a page
+pub page-le : (kind : Kind) (answer : Answer) (s : Chain) → length (pageOf kind answer s) ≤ 8384
+unfolding pageOf
+page-le kind answer s =
+    omega (
+      arith,
+      length-append (joined (eventParts kind answer (s .event))) (chipsFrom (s .count) 0 s),
+      chips-all s,
+      joined-le 32 (eventParts kind answer (s .event)) (field-le "event " (s .event) (omega arith), (omega arith, (name-le kind, (omega arith, (answer-le answer, (omega arith, tt)))))),
+    )
