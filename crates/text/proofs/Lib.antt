@@ -1,4 +1,5 @@
 pub mod Decimal
 pub mod Fits
 pub mod Reading
+pub mod Tried
 pub mod Written
