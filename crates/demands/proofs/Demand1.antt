@@ -3,8 +3,9 @@
 use Rattle.demands.specs.Demand1.{Demand1}
 use Rattle.demands.proofs.FromC as calls
 use Rattle.demands.proofs.Outcomes as outcomes
+use Rattle.demands.proofs.Pages as pages
 use Rattle.demands.proofs.Table as table
 use Rattle.demands.proofs.Unchanged as unchanged
 
 pub demand-1 : Demand1
-demand-1 = record { one-outcome = outcomes.one-outcome; by-the-table = table.by-the-table; unchanged = unchanged.unchanged; from-c = calls.from-c }
+demand-1 = record { one-outcome = outcomes.one-outcome; one-page = pages.one-page; by-the-table = table.by-the-table; unchanged = unchanged.unchanged; from-c = calls.from-c }

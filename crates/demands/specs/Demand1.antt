@@ -1,12 +1,14 @@
 -- The first demand: no input of a call is without its defined result, what is wrong gets its number, and a refusal changes nothing.
 use Rattle.demands.specs.FromC.{FromC}
 use Rattle.demands.specs.Outcomes.{OneOutcome}
+use Rattle.demands.specs.Pages.{OnePage}
 use Rattle.demands.specs.Table.{ByTheTable}
 use Rattle.demands.specs.Unchanged.{Unchanged}
 
 pub record Demand1 : Type 0 where
   -- every call takes every input, and one outcome satisfies its promise: the one that the definitions give
   pub one-outcome : OneOutcome
+  pub one-page : OnePage
   -- its refusal is the first of the table that applies
   pub by-the-table : ByTheTable
   -- a refusal leaves the chain and every lent byte as they were; of a run that is refused at an event, what it accepted before stays
