@@ -8,7 +8,7 @@ use lib.ListN.{length}
 use borrow.Author.Tests.{ne-eqb, eq-eqb}
 use Rattle.refusal.specs.Numbers.{verdictNumber, isAccepted}
 use Rattle.refusal.specs.declared.Verdict.{Verdict}
-use Rattle.chain.specs.Answers.{verdictIn}
+use Rattle.refusal.specs.Answers.{verdictIn}
 use Rattle.chain.specs.Start.{startOf}
 use Rattle.run.specs.Run.{beforeAny, runOf}
 use Rattle.image.specs.Layout.{imageOf}

@@ -10,7 +10,7 @@ use Rattle.refusal.specs.declared.Refusal.{Refusal}
 use Rattle.refusal.specs.declared.Refusal.the-variants.{NotSound, ShortResults}
 use Rattle.refusal.specs.declared.Verdict.{Verdict}
 use Rattle.refusal.specs.declared.Verdict.the-variants.{Refused}
-use Rattle.chain.specs.Answers.{verdictIn}
+use Rattle.refusal.specs.Answers.{verdictIn}
 use Rattle.chain.specs.Refusals.{notSound, noSuchChip}
 use Rattle.chain.specs.Start.{startOf}
 use Rattle.chain.specs.Views.{tableOf, pictureOf}

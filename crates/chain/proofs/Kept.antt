@@ -25,7 +25,7 @@ use Rattle.chip.specs.Sound.{chipSound}
 use Rattle.chip.specs.declared.Chip.{Chip}
 use Rattle.chip.specs.declared.Meaning.{Meaning}
 use Rattle.chip.specs.declared.Meaning.the-variants.{Row, Undefined}
-use Rattle.chain.specs.Answers.{handed}
+use Rattle.refusal.specs.Answers.{handed}
 use Rattle.chain.specs.Events.{afterCommand, changed, counted, accepted, refused, judged, eventOf}
 use Rattle.chain.specs.Fields.{chipAt, oneMore, withChip, withEnable, withResponse, withIack}
 use Rattle.chain.specs.Pins.{isResponding}

@@ -6,7 +6,7 @@ use Prim.Native.Nat.{ℕ, _+_, _%_}
 use Rattle.refusal.proofs.Numbers.{not-zero}
 use Rattle.refusal.specs.declared.Verdict.{Verdict}
 use Rattle.refusal.specs.declared.Verdict.the-variants.{Accepted, Refused}
-use Rattle.chain.specs.Answers.{handed}
+use Rattle.refusal.specs.Answers.{handed}
 use Rattle.chain.specs.Events.{changed, counted, accepted, refused, judged, eventOf}
 use Rattle.chain.specs.Refusals.{verdictOf}
 use Rattle.chain.specs.Fields.{withChips, withChip, withEnable, withIack, withResponse, withEvent}

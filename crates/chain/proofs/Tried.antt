@@ -5,12 +5,12 @@ use mathlib.Core.Path.{_≡_, refl}
 use Prim.Native.Nat.{ℕ}
 use Rattle.chip.specs.Fields.{withPointer}
 use Rattle.chip.specs.Reset.{powerUp}
-use Rattle.chain.specs.Answers.{handed, tabled, pictured}
+use Rattle.refusal.specs.Answers.{handed}
+use Rattle.chain.specs.Views.{tabled, pictured, registerView, pinView}
 use Rattle.chain.specs.Events.{eventOf}
 use Rattle.chain.specs.Fields.{withChip, withIack, withResponse, zeroChain}
 use Rattle.chain.specs.Sound.{sound}
 use Rattle.chain.specs.Start.{started, startOf}
-use Rattle.chain.specs.Views.{registerView, pinView}
 use Rattle.chain.specs.declared.Chain.{Chain}
 use Rattle.chain.specs.declared.Event.{Event}
 use Rattle.chain.specs.declared.Event.the-variants.{Command, Data, Line, Fall}

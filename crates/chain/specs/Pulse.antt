@@ -9,8 +9,8 @@ use Rattle.chip.specs.declared.Chip.{Chip}
 use Rattle.search.specs.Candidate.{channelOf}
 use Rattle.chain.specs.Fields.{chipAt, withChip, withResponse, oneMore}
 use Rattle.chain.specs.Pins.{ei}
-use Rattle.chain.specs.declared.Answer.{Answer}
-use Rattle.chain.specs.declared.Answer.the-variants.{Done, Byte}
+use Rattle.refusal.specs.declared.Answer.{Answer}
+use Rattle.refusal.specs.declared.Answer.the-variants.{Done, Byte}
 use Rattle.chain.specs.declared.Chain.{Chain}
 use Rattle.chain.specs.declared.Reply.{Reply}
 use Rattle.chain.specs.declared.Response.{Response}

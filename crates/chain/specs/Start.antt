@@ -6,7 +6,7 @@ use Rattle.chip.specs.Reset.{powerUp}
 use Rattle.refusal.specs.declared.Refusal.the-variants.{NotSound}
 use Rattle.chain.specs.Fields.{zeroChain}
 use Rattle.chain.specs.Sound.{countSound}
-use Rattle.chain.specs.declared.Answer.the-variants.{Done, Refused}
+use Rattle.refusal.specs.declared.Answer.the-variants.{Done, Refused}
 use Rattle.chain.specs.declared.Chain.{Chain}
 use Rattle.chain.specs.declared.Outcome.{Outcome}
 use Rattle.chain.specs.declared.Response.the-variants.{Idle}

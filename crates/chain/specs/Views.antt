@@ -3,7 +3,7 @@ use mathlib.Core.List.{[], _∷_}
 use Prim.Native.Nat.{ℕ}
 use Rattle.bits.specs.Below.{digit}
 use Rattle.chip.specs.Status.{statusByte, waitingNumber}
-use Rattle.refusal.specs.Numbers.{firstOf}
+use Rattle.refusal.specs.Numbers.{firstOf, refusalNumber}
 use Rattle.refusal.specs.declared.Verdict.{Verdict}
 use Rattle.refusal.specs.declared.Verdict.the-variants.{Accepted, Refused}
 use Rattle.chain.specs.Refusals.{notSound, noSuchChip}
@@ -61,3 +61,22 @@ registerView i s = tableOr (viewVerdict i s) (tableOf i s)
 
 unfoldable pub pinView : ℕ → Chain → PinView
 pinView i s = pictureOr (viewVerdict i s) (pictureOf i s)
+
+-- a view hands back a number and the view's fields, all 0 where it is refused
+pub record Tabled : Type 0 where
+  pub number : ℕ
+  pub registers : Registers
+
+abbrev pub tabled : RegisterView → Tabled
+tabled (Table r) = record { number = 0; registers = r }
+tabled (NoTable why) =
+    record { number = refusalNumber why; registers = record { event = 0; irr = 0; isr = 0; imr = 0; acr = 0; mode = 0; status = 0; waiting = 0 } }
+
+pub record Pictured : Type 0 where
+  pub number : ℕ
+  pub pins : Pins
+
+abbrev pub pictured : PinView → Pictured
+pictured (Picture p) = record { number = 0; pins = p }
+pictured (NoPicture why) =
+    record { number = refusalNumber why; pins = record { event = 0; ei = 0; eo = 0; gint = 0; rip = 0; pause = 0; iack = 0 } }

@@ -9,12 +9,12 @@ ghost use Rattle.chain.specs.Pins.{ei};
 ghost use Rattle.chain.specs.Refusals.{verdictOf};
 ghost use Rattle.chain.specs.declared.Event.the-variants.{Command, Data, Line, Enable, Rise};
 ghost use Rattle.refusal.specs.declared.Verdict.the-variants.{Accepted};
-use crate::Answer;
 use crate::Chain;
 use crate::Event;
 use crate::Outcome;
 use crate::Response;
 use chip::Meaning;
+use refusal::Answer;
 
 impl Chain {
     // An event that no refusal meets.

@@ -3,12 +3,12 @@ ghost use mathlib.Core.Path.{_≡_};
 ghost use Prim.Native.Nat.{_<_};
 ghost use Rattle.chain.specs.Events.{counted, accepted, refused};
 ghost use Rattle.chain.specs.Fields.{chipAt, withChip, withResponse, zeroChain, oneMore};
-use crate::Answer;
 use crate::Chain;
 use crate::Outcome;
 use crate::Reply;
 use crate::Response;
 use chip::Chip;
+use refusal::Answer;
 use refusal::Refusal;
 
 impl Reply {

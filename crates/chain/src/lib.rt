@@ -1,8 +1,7 @@
 // One to eight chained Am9519A chips: the chain's record, the eight events, and the two views of one state.
-// The records stand here. The public calls are in start.rt, calls.rt (the eight events), views.rt, sound.rt and answers.rt (an answer's numbers); they
+// The records stand here. The public calls are in start.rt, calls.rt (the eight events), views.rt and sound.rt; they
 // take every input. What stands behind them asks for what they have checked: a sound chain, an event that no refusal meets, an index in range.
 // refusals.rt has the tests of the table, public too, over what they look at: for whoever holds a chain in another form than the record.
-mod answers;
 mod calls;
 mod changes;
 mod fields;
@@ -14,6 +13,7 @@ mod start;
 mod views;
 
 use chip::Chip;
+use refusal::Answer;
 use refusal::Refusal;
 
 // A response that is under way, and how many of its bytes the chip has driven.
@@ -54,13 +54,6 @@ pub enum Event {
     Enable(u8),
     Fall,
     Rise,
-}
-
-// What an event answers: a byte where one was driven or read.
-pub enum Answer {
-    Done,
-    Byte(u8),
-    Refused(Refusal),
 }
 
 // The answer, and the chain handed back.

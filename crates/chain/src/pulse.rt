@@ -10,15 +10,15 @@ ghost use Rattle.chain.specs.Events.{accepted, judged};
 ghost use Rattle.chain.specs.Fields.{chipAt, oneMore, withIack, withResponse};
 ghost use Rattle.chain.specs.Pulse.{answeringChip, replyOf, selected, firstPulse, driven, risenAfter, risen};
 ghost use Rattle.chain.specs.Sound.{sound};
-ghost use Rattle.chain.specs.declared.Answer.the-variants.{Done, Byte};
+ghost use Rattle.refusal.specs.declared.Answer.the-variants.{Done, Byte};
 ghost use Rattle.chain.specs.declared.Event.the-variants.{Fall};
 ghost use Rattle.chain.specs.declared.Response.the-variants.{UnderWay};
-use crate::Answer;
 use crate::Chain;
 use crate::Outcome;
 use crate::Reply;
 use crate::Response;
 use chip::Chip;
+use refusal::Answer;
 
 impl Reply {
     // The response of chip i for its candidate, before its first byte: level and length are held from here on.

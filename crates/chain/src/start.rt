@@ -1,12 +1,12 @@
 // Start: a chip count and a fill byte.
 ghost use mathlib.Core.Path.{_≡_};
 ghost use Rattle.chain.specs.Start.{started, startOf};
-use crate::Answer;
 use crate::Chain;
 use crate::Outcome;
 use crate::Response;
 use crate::sound::is_count;
 use chip::Chip;
+use refusal::Answer;
 use refusal::Refusal;
 
 impl Chain {

@@ -8,10 +8,9 @@ use Rattle.bits.specs.Byte.{bit}
 use Rattle.search.specs.Candidate.{exists}
 use Rattle.chip.specs.Status.{isPolled, candidateOf, gintActive, gintPin}
 use Rattle.chip.specs.declared.Chip.{Chip}
-use Rattle.chain.specs.Answers.{tabled, pictured}
+use Rattle.chain.specs.Views.{tabled, pictured, tableOf, pictureOf, pinView}
 use Rattle.chain.specs.Fields.{chipAt}
 use Rattle.chain.specs.Pins.{ei}
-use Rattle.chain.specs.Views.{tableOf, pictureOf, pinView}
 use Rattle.chain.specs.declared.Chain.{Chain}
 use Rattle.chain.specs.declared.PinView.{PinView}
 use Rattle.chain.specs.declared.RegisterView.{RegisterView}

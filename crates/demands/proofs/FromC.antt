@@ -15,11 +15,10 @@ use Rattle.refusal.specs.Numbers.{verdictNumber, isAccepted, firstOf}
 use Rattle.refusal.specs.declared.Refusal.the-variants.{NotSound, NoSuchChip, BrokenEvent, ShortResults}
 use Rattle.refusal.specs.declared.Verdict.{Verdict}
 use Rattle.refusal.specs.declared.Verdict.the-variants.{Accepted, Refused}
-use Rattle.chain.specs.Answers.{tabled, pictured}
+use Rattle.chain.specs.Views.{tabled, pictured, tableOf, pictureOf}
 use Rattle.chain.specs.Refusals.{notSound, noSuchChip}
 use Rattle.chain.specs.Sound.{sound, countSound}
 use Rattle.chain.specs.Start.{startOf}
-use Rattle.chain.specs.Views.{tableOf, pictureOf}
 use Rattle.chain.specs.declared.Chain.{Chain}
 use Rattle.chain.specs.declared.PinView.{PinView}
 use Rattle.chain.specs.declared.Pins.{Pins}

@@ -23,7 +23,7 @@ use Rattle.chain.proofs.Number.{number-kept}
 use Rattle.chain.proofs.Passed.{passed-sound, passed-names}
 use Rattle.chain.proofs.Rules.{chainFields}
 use Rattle.chain.proofs.Soundness.{under-way-parts, selected-sound}
-use Rattle.chain.specs.Answers.{handed}
+use Rattle.refusal.specs.Answers.{handed}
 use Rattle.chain.specs.Events.{answerOf, changed, counted, accepted, refused, judged, eventOf}
 use Rattle.chain.specs.Fields.{chipAt, withChip}
 use Rattle.chain.specs.Pins.{isIdle, isResponding}

@@ -9,7 +9,7 @@ use lib.ListN.{getD, set, length, length-set}
 use lib.Seq.{getD-set-same, getD-set-other}
 use Rattle.refusal.specs.Numbers.{isAccepted}
 use Rattle.refusal.specs.declared.Verdict.the-variants.{Accepted}
-use Rattle.chain.specs.Answers.{verdictIn, Handed, handed}
+use Rattle.refusal.specs.Answers.{verdictIn, Handed, handed}
 use Rattle.chain.specs.declared.Chain.{Chain}
 use Rattle.run.proofs.Before.{before-room, refused-before, none-before}
 use Rattle.run.proofs.Count.{accepted-count, no-more}

@@ -16,12 +16,12 @@ use Rattle.refusal.specs.declared.Verdict.the-variants.{Accepted}
 use Rattle.chip.specs.Status.{isArmed, isPolled, isRotating, candidateOf, statusByte}
 use Rattle.chip.specs.declared.Chip.{Chip}
 use Rattle.chain.proofs.Passed.{passed-sound, passed-names}
-use Rattle.chain.specs.Answers.{handed, tabled}
+use Rattle.refusal.specs.Answers.{handed}
+use Rattle.chain.specs.Views.{tabled, tableOf, pictureOf, viewVerdict, tableOr, pictureOr, registerView, pinView}
 use Rattle.chain.specs.Events.{answerOf, changed, accepted, judged, eventOf}
 use Rattle.chain.specs.Fields.{chipAt}
 use Rattle.chain.specs.Refusals.{verdictOf}
 use Rattle.chain.specs.Sound.{sound}
-use Rattle.chain.specs.Views.{tableOf, pictureOf, viewVerdict, tableOr, pictureOr, registerView, pinView}
 use Rattle.chain.specs.declared.Chain.{Chain}
 use Rattle.chain.specs.declared.Event.{Event}
 use Rattle.chain.specs.declared.Event.the-variants.{Status}

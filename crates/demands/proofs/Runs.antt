@@ -11,10 +11,10 @@ use borrow.Author.Tests.{eqb-true, ne-eqb}
 use Rattle.refusal.proofs.Numbers.{not-zero, not-both}
 use Rattle.refusal.specs.Numbers.{refusalNumber, isAccepted}
 use Rattle.chain.proofs.Number as number
-use Rattle.chain.specs.Answers.{verdictIn, handed}
+use Rattle.refusal.specs.Answers.{verdictIn, handed}
 use Rattle.chain.specs.Sound.{sound}
-use Rattle.chain.specs.declared.Answer.{Answer}
-use Rattle.chain.specs.declared.Answer.the-variants.{Done, Byte, Refused}
+use Rattle.refusal.specs.declared.Answer.{Answer}
+use Rattle.refusal.specs.declared.Answer.the-variants.{Done, Byte, Refused}
 use Rattle.chain.specs.declared.Chain.{Chain}
 use Rattle.run.proofs.Before as before-any
 use Rattle.run.proofs.Count as count

@@ -18,14 +18,14 @@ use Rattle.refusal.specs.declared.Refusal.{Refusal}
 use Rattle.refusal.specs.declared.Verdict.{Verdict}
 use Rattle.refusal.specs.declared.Verdict.the-variants.{Accepted}
 use Rattle.bits.proofs.Below.{either}
-use Rattle.chain.specs.Answers.{verdictIn, handed, tabled, pictured}
+use Rattle.refusal.specs.Answers.{verdictIn, handed}
+use Rattle.chain.specs.Views.{tabled, pictured, tableOf, pictureOf, viewVerdict, tableOr, pictureOr, registerView, pinView}
 use Rattle.chain.specs.Events.{accepted, refused, judged, eventOf}
 use Rattle.chain.specs.Refusals.{notSound, noSuchChip, checks, verdictOf}
 use Rattle.chain.specs.Sound.{countSound}
 use Rattle.chain.specs.Start.{startOf}
-use Rattle.chain.specs.Views.{tableOf, pictureOf, viewVerdict, tableOr, pictureOr, registerView, pinView}
-use Rattle.chain.specs.declared.Answer.{Answer}
-use Rattle.chain.specs.declared.Answer.the-variants.{Done, Byte}
+use Rattle.refusal.specs.declared.Answer.{Answer}
+use Rattle.refusal.specs.declared.Answer.the-variants.{Done, Byte}
 use Rattle.chain.specs.declared.Chain.{Chain}
 use Rattle.chain.specs.declared.Event.{Event}
 use Rattle.chain.specs.declared.Event.the-variants.{Command, Data, Status, Read, Line, Enable, Fall, Rise}

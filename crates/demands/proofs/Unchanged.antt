@@ -10,13 +10,13 @@ use Rattle.refusal.specs.Numbers.{isAccepted}
 use Rattle.refusal.specs.declared.Verdict.{Verdict}
 use Rattle.refusal.specs.declared.Verdict.the-variants.{Accepted, Refused}
 use Rattle.bits.proofs.Below.{either}
-use Rattle.chain.specs.Answers.{Handed, handed, tabled, pictured}
+use Rattle.refusal.specs.Answers.{Handed, handed}
+use Rattle.chain.specs.Views.{tabled, pictured, tableOf, pictureOf, viewVerdict, tableOr, pictureOr, registerView, pinView}
 use Rattle.chain.specs.Events.{accepted, refused, judged, eventOf}
 use Rattle.chain.specs.Fields.{zeroChain}
 use Rattle.chain.specs.Refusals.{verdictOf}
 use Rattle.chain.specs.Sound.{countSound}
 use Rattle.chain.specs.Start.{startOf}
-use Rattle.chain.specs.Views.{tableOf, pictureOf, viewVerdict, tableOr, pictureOr, registerView, pinView}
 use Rattle.chain.specs.declared.Chain.{Chain}
 use Rattle.chain.specs.declared.Event.{Event}
 use Rattle.chain.specs.declared.Outcome.{Outcome}

@@ -5,9 +5,8 @@ use Prim.Native.Nat.{ℕ, _<_}
 use lib.Dec.{eqb}
 use Rattle.bits.specs.Below.{digit}
 use Rattle.bits.specs.Byte.{bit}
-use Rattle.chain.specs.Answers.{tabled, pictured}
+use Rattle.chain.specs.Views.{tabled, pictured, registerView, pinView}
 use Rattle.chain.specs.Sound.{sound}
-use Rattle.chain.specs.Views.{registerView, pinView}
 use Rattle.chain.specs.declared.Chain.{Chain}
 use Rattle.chain.specs.declared.Pins.{Pins}
 use Rattle.chain.specs.declared.Registers.{Registers}

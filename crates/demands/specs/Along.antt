@@ -4,7 +4,7 @@ use mathlib.Core.List.{List, [], _∷_}
 use Prim.Native.Nat.{ℕ, _+_}
 use lib.Dec.{eqb}
 use Rattle.bits.specs.Below.{digit}
-use Rattle.chain.specs.Answers.{handed}
+use Rattle.refusal.specs.Answers.{handed}
 use Rattle.chain.specs.Events.{eventOf}
 use Rattle.chain.specs.declared.Chain.{Chain}
 use Rattle.chain.specs.declared.Event.{Event}

@@ -3,10 +3,10 @@ use mathlib.Core.Bool.{Bool, true, _&&_}
 use mathlib.Core.List.{List, [], _∷_}
 use Prim.Native.Nat.{ℕ}
 use lib.Dec.{eqb}
-use Rattle.chain.specs.Answers.{Handed, handed, tabled, pictured}
+use Rattle.refusal.specs.Answers.{Handed, handed}
+use Rattle.chain.specs.Views.{tabled, pictured, registerView, pinView}
 use Rattle.chain.specs.Events.{eventOf}
 use Rattle.chain.specs.Start.{startOf}
-use Rattle.chain.specs.Views.{registerView, pinView}
 use Rattle.chain.specs.declared.Chain.{Chain}
 use Rattle.chain.specs.declared.Event.{Event}
 

@@ -9,9 +9,8 @@ use lib.ListN.{length, drop}
 use Rattle.bits.specs.Below.{digit}
 use Rattle.bits.specs.Byte.{bit}
 use Rattle.refusal.specs.Numbers.{verdictNumber}
-use Rattle.chain.specs.Answers.{tabled, pictured}
+use Rattle.chain.specs.Views.{tabled, pictured, registerView, pinView}
 use Rattle.chain.specs.Start.{startOf}
-use Rattle.chain.specs.Views.{registerView, pinView}
 use Rattle.run.specs.Run.{Report, runOf}
 use Rattle.image.specs.Layout.{imageOf, over}
 use Rattle.image.specs.Reading.{byte, chainIn, isImage}

@@ -16,10 +16,10 @@ use Rattle.refusal.specs.Numbers.{refusalNumber, verdictNumber, isAccepted}
 use Rattle.refusal.specs.declared.Refusal.{Refusal}
 use Rattle.refusal.specs.declared.Verdict.{Verdict}
 use Rattle.search.specs.Candidate.{searchNumber}
-use Rattle.chain.proofs.Answer.byte.Reads as answer-byte
-use Rattle.chain.proofs.Answer.drove.Reads as answer-drove
-use Rattle.chain.proofs.Answer.number.Reads as answer-number
-use Rattle.chain.proofs.Answer.verdict.Reads as answer-verdict
+use Rattle.refusal.proofs.Answer.byte.Reads as answer-byte
+use Rattle.refusal.proofs.Answer.drove.Reads as answer-drove
+use Rattle.refusal.proofs.Answer.number.Reads as answer-number
+use Rattle.refusal.proofs.Answer.verdict.Reads as answer-verdict
 use Rattle.chain.proofs.Chain.command.Reads as chain-command
 use Rattle.chain.proofs.Chain.data.Reads as chain-data
 use Rattle.chain.proofs.Chain.enable.Reads as chain-enable
@@ -33,12 +33,12 @@ use Rattle.chain.proofs.Chain.register_view.Reads as chain-register-view
 use Rattle.chain.proofs.Chain.rise.Reads as chain-rise
 use Rattle.chain.proofs.Chain.start.Reads as chain-start
 use Rattle.chain.proofs.Chain.status.Reads as chain-status
-use Rattle.chain.specs.Answers.{verdictIn, handed}
+use Rattle.refusal.specs.Answers.{verdictIn, handed}
 use Rattle.chain.specs.Events.{eventOf}
 use Rattle.chain.specs.Sound.{sound}
 use Rattle.chain.specs.Start.{startOf}
 use Rattle.chain.specs.Views.{registerView, pinView}
-use Rattle.chain.specs.declared.Answer.{Answer}
+use Rattle.refusal.specs.declared.Answer.{Answer}
 use Rattle.chain.specs.declared.Chain.{Chain}
 use Rattle.chain.specs.declared.Event.{Event}
 use Rattle.chain.specs.declared.Event.the-variants.{Command, Data, Status, Read, Line, Enable, Fall, Rise}

@@ -4,7 +4,7 @@ use mathlib.Core.List.{List}
 use Prim.Native.Nat.{ℕ}
 use contract.Lifetimes.{Lfts}
 use denote.Ref.{RefT, at-last}
-use Rattle.chain.specs.declared.Answer.{Answer}
+use Rattle.refusal.specs.declared.Answer.{Answer}
 use Rattle.chain.specs.declared.Chain.{Chain}
 use Rattle.steps.proofs.line.step_of.Reads as step-of
 use Rattle.steps.specs.Lines.{stepOf}

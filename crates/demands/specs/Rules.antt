@@ -7,10 +7,10 @@ use Rattle.bits.specs.Byte.{bit}
 use Rattle.search.specs.Candidate.{exists, channelOf}
 use Rattle.chip.specs.Status.{isArmed, isPolled, isRotating, candidateOf, statusByte}
 use Rattle.chip.specs.declared.Chip.{Chip}
-use Rattle.chain.specs.Answers.{handed, tabled}
+use Rattle.refusal.specs.Answers.{handed}
+use Rattle.chain.specs.Views.{tabled, tableOf, pictureOf, registerView, pinView}
 use Rattle.chain.specs.Events.{answerOf, changed, accepted, eventOf}
 use Rattle.chain.specs.Sound.{sound}
-use Rattle.chain.specs.Views.{tableOf, pictureOf, registerView, pinView}
 use Rattle.chain.specs.declared.Chain.{Chain}
 use Rattle.chain.specs.declared.Event.{Event}
 use Rattle.chain.specs.declared.Event.the-variants.{Status}

@@ -6,9 +6,9 @@ use Prim.Native.Nat.{ℕ, _+_, _*_, _%_, _<_, min}
 use lib.Dec.{eqb}
 use lib.ListN.{getD}
 use Rattle.refusal.specs.Numbers.{isAccepted}
-use Rattle.chain.specs.Answers.{verdictIn, handed}
+use Rattle.refusal.specs.Answers.{verdictIn, handed}
 use Rattle.chain.specs.Sound.{sound}
-use Rattle.chain.specs.declared.Answer.{Answer}
+use Rattle.refusal.specs.declared.Answer.{Answer}
 use Rattle.chain.specs.declared.Chain.{Chain}
 use Rattle.run.specs.List.{listedAt}
 use Rattle.run.specs.Run.{listLength, beforeAny, stepOf, acceptedFrom, runOf}

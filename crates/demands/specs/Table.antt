@@ -10,12 +10,12 @@ use Rattle.refusal.specs.Numbers.{verdictNumber}
 use Rattle.search.specs.Candidate.{searchNumber}
 use Rattle.chip.specs.Data.{hasNoDestination, isPastItsCount}
 use Rattle.chip.specs.Figure4.{figure4, undefined}
-use Rattle.chain.specs.Answers.{handed, tabled, pictured}
+use Rattle.refusal.specs.Answers.{handed}
+use Rattle.chain.specs.Views.{tabled, pictured, registerView, pinView}
 use Rattle.chain.specs.Events.{eventOf}
 use Rattle.chain.specs.Fields.{chipAt}
 use Rattle.chain.specs.Sound.{sound}
 use Rattle.chain.specs.Start.{startOf}
-use Rattle.chain.specs.Views.{registerView, pinView}
 use Rattle.chain.specs.declared.Chain.{Chain}
 use Rattle.chain.specs.declared.Event.{Event}
 use Rattle.chain.specs.declared.Event.the-variants.{Command, Data, Status, Read, Line, Enable, Fall, Rise}

@@ -6,11 +6,11 @@ use Prim.Native.Nat.{ℕ, _*_, _≤_}
 use lib.ListN.{getD, length}
 use Rattle.refusal.specs.Numbers.{isAccepted}
 use Rattle.refusal.specs.declared.Verdict.the-variants.{Accepted}
-use Rattle.chain.specs.Answers.{handed, tabled, pictured}
+use Rattle.refusal.specs.Answers.{handed}
+use Rattle.chain.specs.Views.{tabled, pictured, registerView, pinView}
 use Rattle.chain.specs.Events.{eventOf}
 use Rattle.chain.specs.Fields.{zeroChain}
 use Rattle.chain.specs.Start.{startOf}
-use Rattle.chain.specs.Views.{registerView, pinView}
 use Rattle.chain.specs.declared.Chain.{Chain}
 use Rattle.chain.specs.declared.Event.{Event}
 use Rattle.run.specs.Run.{Report, beforeAny, stopped, runOf}

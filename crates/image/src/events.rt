@@ -17,7 +17,6 @@ use crate::places::set_response;
 use crate::pulse::fall;
 use crate::pulse::rise;
 use crate::reading::response_in;
-use chain::Answer;
 use chain::Event;
 use chain::refusals::bus_verdict;
 use chain::refusals::command_verdict;
@@ -27,6 +26,7 @@ use chain::refusals::line_verdict;
 use chain::refusals::rise_verdict;
 use chain::refusals::write_verdict;
 use chip::Meaning;
+use refusal::Answer;
 use refusal::Verdict;
 
 // A command write. A reset of chip i ends a response of that chip.

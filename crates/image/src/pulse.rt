@@ -15,9 +15,9 @@ use crate::places::set_chip;
 use crate::places::set_iack;
 use crate::places::set_response;
 use crate::reading::response_in;
-use chain::Answer;
 use chain::Reply;
 use chain::Response;
+use refusal::Answer;
 
 // From chip 0, while EI is high, the first chip with M2 clear and a candidate; the count if no chip answers.
 fn answering_chip(image: &[u8]) -> u8

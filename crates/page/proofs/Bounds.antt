@@ -12,8 +12,8 @@ use Rattle.chain.proofs.Soundness.{count-le}
 use Rattle.chain.specs.Pins.{gint}
 use Rattle.chain.specs.Sound.{sound}
 use Rattle.chain.specs.Views.{registerView, pinView, tableOr, pictureOr}
-use Rattle.chain.specs.declared.Answer.{Answer}
-use Rattle.chain.specs.declared.Answer.the-variants.{Done, Byte, Refused}
+use Rattle.refusal.specs.declared.Answer.{Answer}
+use Rattle.refusal.specs.declared.Answer.the-variants.{Done, Byte, Refused}
 use Rattle.chain.specs.declared.Chain.{Chain}
 use Rattle.chain.specs.declared.PinView.{PinView}
 use Rattle.chain.specs.declared.PinView.the-variants.{Picture, NoPicture}

@@ -4,7 +4,7 @@ use mathlib.Core.List.{_++_}
 use mathlib.Core.Path.{_≡_, refl}
 use Rattle.chain.proofs.Rules.{rules}
 use Rattle.chain.specs.Start.{started}
-use Rattle.chain.specs.declared.Answer.the-variants.{Byte}
+use Rattle.refusal.specs.declared.Answer.the-variants.{Byte}
 use Rattle.page.specs.Page.{pinsLine, registersLine, pageOf}
 use Rattle.steps.specs.declared.Kind.the-variants.{Status}
 use Rattle.text.specs.Written.{text, decimal, hexByte}

@@ -11,8 +11,8 @@ use crate::fields::put_field;
 use crate::fields::put_name;
 use crate::lines::put_pins_line;
 use crate::lines::put_registers_line;
-use chain::Answer;
 use chain::Chain;
+use refusal::Answer;
 use steps::Kind;
 use text::put::put;
 

@@ -1,7 +1,9 @@
-// The numbers handed back: why a call is refused, and the number of each reason.
+// The numbers handed back: why a call is refused, the number of each reason, and what an event answers.
 // A failure has a name here; document 01's table of numbers stands in specs/ and every promise goes through it.
 ghost use mathlib.Core.Path.{_≡_};
 ghost use Rattle.refusal.specs.Numbers.{refusalNumber, verdictNumber, isAccepted};
+
+mod answers;
 
 // The reasons, in the table's order.
 pub enum Refusal {
@@ -22,6 +24,13 @@ pub enum Refusal {
 // What a call is told before it changes anything.
 pub enum Verdict {
     Accepted,
+    Refused(Refusal),
+}
+
+// What an event answers: a byte where one was driven or read.
+pub enum Answer {
+    Done,
+    Byte(u8),
     Refused(Refusal),
 }
 

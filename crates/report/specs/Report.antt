@@ -6,8 +6,8 @@ use lib.Dec.{eqb}
 use Rattle.chain.specs.Events.{eventOf}
 use Rattle.chain.specs.Fields.{zeroChain}
 use Rattle.chain.specs.Start.{startOf}
-use Rattle.chain.specs.declared.Answer.{Answer}
-use Rattle.chain.specs.declared.Answer.the-variants.{Done, Byte, Refused}
+use Rattle.refusal.specs.declared.Answer.{Answer}
+use Rattle.refusal.specs.declared.Answer.the-variants.{Done, Byte, Refused}
 use Rattle.chain.specs.declared.Chain.{Chain}
 use Rattle.chain.specs.declared.Event.{Event}
 use Rattle.chain.specs.declared.Event.the-variants.{Command, Data, Status, Read, Line, Enable, Fall, Rise}

@@ -8,11 +8,11 @@ ghost use Rattle.report.specs.Report.{atFirst, nextLine, answered, kindI
 ghost use Rattle.text.specs.Written.{written};
 use crate::messages::put_malformed;
 use crate::messages::put_refused;
-use chain::Answer;
 use chain::Chain;
 use chain::Event;
 use chain::Outcome;
 use page::put_page;
+use refusal::Answer;
 use steps::Expected;
 use steps::Kind;
 use steps::Step;

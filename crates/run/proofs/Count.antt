@@ -7,7 +7,7 @@ use Prim.Native.Nat.{ℕ, zero, suc, _+_, _≤_}
 use native.Mathlib.Nat.{add-zero}
 use native.Mathlib.Omega.{arith}
 use Rattle.refusal.specs.Numbers.{isAccepted}
-use Rattle.chain.specs.Answers.{verdictIn}
+use Rattle.refusal.specs.Answers.{verdictIn}
 use Rattle.chain.specs.declared.Chain.{Chain}
 use Rattle.chain.specs.declared.Outcome.{Outcome}
 use Rattle.run.proofs.Steps.{run-through}

@@ -11,7 +11,7 @@ use Rattle.refusal.specs.declared.Verdict.{Verdict}
 use Rattle.refusal.specs.declared.Verdict.the-variants.{Accepted, Refused}
 use Rattle.refusal.proofs.Numbers.{not-both}
 use Rattle.chain.proofs.Kept.{sound-kept}
-use Rattle.chain.specs.Answers.{verdictIn, Handed, handed}
+use Rattle.refusal.specs.Answers.{verdictIn, Handed, handed}
 use Rattle.chain.specs.Sound.{sound}
 use Rattle.chain.specs.declared.Chain.{Chain}
 use Rattle.chain.specs.declared.Outcome.{Outcome}

@@ -9,10 +9,10 @@ use Rattle.refusal.specs.declared.Refusal.{Refusal}
 use Rattle.refusal.specs.declared.Refusal.the-variants.{BrokenEvent, ShortResults, UnknownKind}
 use Rattle.refusal.specs.declared.Verdict.{Verdict}
 use Rattle.refusal.specs.declared.Verdict.the-variants.{Accepted}
-use Rattle.chain.specs.Answers.{verdictIn, Handed, handed}
+use Rattle.refusal.specs.Answers.{verdictIn, Handed, handed}
 use Rattle.chain.specs.Events.{eventOf}
 use Rattle.chain.specs.Refusals.{notSound}
-use Rattle.chain.specs.declared.Answer.{Answer}
+use Rattle.refusal.specs.declared.Answer.{Answer}
 use Rattle.chain.specs.declared.Chain.{Chain}
 use Rattle.chain.specs.declared.Outcome.{Outcome}
 use Rattle.run.specs.List.{listedAt}

@@ -3,14 +3,14 @@ ghost use mathlib.Core.Bool.{true};
 ghost use mathlib.Core.Path.{_≡_};
 ghost use Prim.Native.Nat.{_+_, _*_, _≤_, min};
 ghost use lib.ListN.{length};
-ghost use Rattle.chain.specs.Answers.{handed};
+ghost use Rattle.refusal.specs.Answers.{handed};
 ghost use Rattle.chain.specs.Sound.{sound};
 ghost use Rattle.image.specs.Reading.{chainIn, isImage};
 ghost use Rattle.refusal.specs.Numbers.{isAccepted};
 ghost use Rattle.run.specs.Run.{stepOf, noted, beforeAny, runFrom, runOf};
 use crate::Listed;
-use chain::Answer;
 use image::events::on;
+use refusal::Answer;
 use refusal::Refusal;
 use refusal::Verdict;
 

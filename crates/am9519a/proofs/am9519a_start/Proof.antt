@@ -6,7 +6,7 @@ use borrow.Author.Tests.{not-true, not-false}
 use borrow.Author.Needs.{needs}
 use Rattle.refusal.specs.Numbers.{verdictNumber, isAccepted}
 use Rattle.refusal.proofs.Numbers.{accepted-is}
-use Rattle.chain.specs.Answers.{verdictIn}
+use Rattle.refusal.specs.Answers.{verdictIn}
 use Rattle.chain.specs.Start.{startOf}
 use Rattle.image.specs.Layout.{imageOf}
 use Rattle.am9519a.proofs.Told.{start-short, start-refused, start-done}

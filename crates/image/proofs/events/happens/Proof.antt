@@ -6,7 +6,7 @@ use Rattle.refusal.specs.declared.Verdict.the-variants.{Accepted}
 use Rattle.chain.proofs.Passed.{in-eight, passed-sound, passed-names, passed-fall}
 use Rattle.chain.specs.Events.{answerOf, changed}
 use Rattle.chain.specs.Refusals.{verdictOf}
-use Rattle.chain.specs.declared.Answer.the-variants.{Byte}
+use Rattle.refusal.specs.declared.Answer.the-variants.{Byte}
 use Rattle.chain.specs.declared.Chain.{Chain}
 use Rattle.chain.specs.declared.Event.{Event}
 use Rattle.image.specs.Reading.{chainIn}

@@ -5,7 +5,7 @@ use mathlib.Core.Path.{ap, _∙_}
 use borrow.Author.Needs.{needs}
 use Rattle.chain.specs.Fields.{oneMore, withChip, withIack, withResponse}
 use Rattle.chain.specs.Pulse.{firstPulse}
-use Rattle.chain.specs.declared.Answer.the-variants.{Byte}
+use Rattle.refusal.specs.declared.Answer.the-variants.{Byte}
 use Rattle.chain.specs.declared.Response.the-variants.{UnderWay}
 use Rattle.image.specs.Reading.{chainIn}
 use Rattle.image.proofs.pulse.answer.Statement.{statement}

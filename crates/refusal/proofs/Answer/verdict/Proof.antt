@@ -1,8 +1,8 @@
--- `chain::Answer::verdict` meets its contract.
+-- `refusal::Answer::verdict` meets its contract.
 -- Assumes nothing.
 use borrow.Author.Needs.{needs}
-use Rattle.chain.proofs.Answer.verdict.Statement.{statement}
-use Rattle.chain.proofs.Answer.verdict.Tie as tie
+use Rattle.refusal.proofs.Answer.verdict.Statement.{statement}
+use Rattle.refusal.proofs.Answer.verdict.Tie as tie
 
 enum-told : tie.Need-enum-told
 enum-told c = search needs

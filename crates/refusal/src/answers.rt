@@ -1,8 +1,8 @@
 // What an answer hands back, in the paper's numbers.
 ghost use mathlib.Core.Path.{_≡_};
-ghost use Rattle.chain.specs.Answers.{verdictIn, handed};
+ghost use Rattle.refusal.specs.Answers.{verdictIn, handed};
 use crate::Answer;
-use refusal::Verdict;
+use crate::Verdict;
 
 impl Answer {
     // Whether the event was accepted, or why it was refused.
