@@ -8,6 +8,8 @@
 #   apply EDIT FOLDER     carries out an edit on the files below FOLDER
 #   told STATUS LOG       what a check of an edit came to
 #   place LOG             where its first complaint is
+#   body EDIT FOLDER      the function whose body alone an edit changes, as FILE FIRST LAST NAME with its lines; nothing where it does more
+#   own LOG FILE FIRST LAST NAME   where the first complaint is that is this function's own
 #   each COMMAND..        COMMAND with each line of standard input behind it, as many at a time as there are processors
 #
 # An edit is a line on what it does, then `file:`, `old:` and `new:`, each with one line of text, as rt's must-fail edits are. Its files are named from the
@@ -101,8 +103,42 @@ told() { # STATUS LOG
     fi
 }
 
+# A place in a log, from the crate's folder on.
+short() {
+    sed -E 's,^(note: )?(.*/crates/[^/]*/)?,,; s/: error$//; s/:$//'
+}
+
 place() { # LOG
-    { grep -m 1 -oE '^[^ ]*: error' "$1" || grep -m 1 -oE '^note: [^ ]*:[0-9]+:[0-9]+:' "$1"; } | sed -E 's,^(note: )?(.*/crates/[^/]*/)?,,; s/: error$//; s/:$//'
+    { grep -m 1 -oE '^[^ ]*: error' "$1" || grep -m 1 -oE '^note: [^ ]*:[0-9]+:[0-9]+:' "$1"; } | short
+}
+
+body() { # EDIT FOLDER
+    local file old
+    [ "$(grep -c '^new: ' "$1")" = 1 ] || return 0
+    file=$(sed -n 's/^file: //p' "$1")
+    case $file in src/*) ;; *) return 0 ;; esac
+    old=$(sed -n 's/^old: //p' "$1")
+    OLD=$old awk -v file="$file" '
+        match($0, /^ *(pub(\([a-z]*\))? )?(extern "C" )?fn /) {
+            name = substr($0, RLENGTH + 1); sub(/[^a-z0-9_].*/, "", name)
+            match($0, /^ */); indent = substr($0, 1, RLENGTH)
+            first = NR; inside = 0; hit = 0
+        }
+        name != "" && $0 == indent "{" { inside = 1; next }
+        inside && $0 == indent "}" { if (hit) print file, first, NR, name; name = ""; inside = 0; next }
+        inside && index($0, ENVIRON["OLD"]) { hit = 1 }' "$2/$file"
+}
+
+# In its own proof, or where rattle makes the proof, at its line of the source. That something below it was not admitted is no complaint of its own.
+own() { # LOG FILE FIRST LAST NAME
+    {
+        grep -E "/proofs/([^ :]*/)?$5/Proof\.antt:[0-9]+:[0-9]+: error: " "$1" | grep -v 'was not admitted' | grep -oE '^[^ ]*: error'
+        awk -v file="/$2:" -v first="$3" -v last="$4" '
+            /^note: [^ ]*: it is not proved/ && (at = index($2, file)) {
+                split(substr($2, at + length(file)), where, ":")
+                if (where[1] >= first && where[1] <= last) print $2
+            }' "$1"
+    } | head -n 1 | short
 }
 
 each() { # COMMAND..
