@@ -1,38 +1,44 @@
 # Copies of the repository, edits of them, and what the prover says of an edit: shared by the scripts that try something wrong (tests/edits/run,
 # tests/rules/run, tests/cases/run). Sourced by bash.
 #
-#   copy FROM TO          TO gets the crates of FROM
-#   is_proved FROM ROOM CRATE..   whether these crates are proved in FROM as they stand there, with what they use; ROOM is an empty folder for that
-#   link_proved FROM TO   TO has proved what FROM has
-#   forget FROM TO        what differs in TO, and what uses that, is no longer proved there
-#   apply EDIT FOLDER     carries out an edit on the files below FOLDER
-#   told STATUS LOG       what a check of an edit came to
-#   place LOG             where its first complaint is
-#   body EDIT FOLDER      the function whose body alone an edit changes, as FILE FIRST LAST NAME with its lines; nothing where it does more
-#   own LOG FILE FIRST LAST NAME   where the first complaint is that is this function's own
-#   each COMMAND..        COMMAND with each line of standard input behind it, as many at a time as there are processors
+#   copy FROM TO                    TO gets the crates of FROM
+#   is_proved FROM ROOM CRATE..     whether these crates, with what they use, are proved in FROM as they stand there; ROOM becomes a copy
+#   link_proved FROM TO             TO has proved what FROM has
+#   forget FROM TO                  what differs in TO, and what uses that, is no longer proved there
+#   untouched FROM MARK             whether nothing that FROM has proved was written since the file MARK
+#   apply EDIT FOLDER               carries out an edit on the files below FOLDER
+#   told STATUS LOG                 what a check of an edit came to: refused, survived, unread or unfit
+#   place LOG                       where its first complaint is
+#   body EDIT FOLDER                the function whose body alone an edit changes, as FILE FIRST LAST NAME with its lines; nothing where it does more
+#   own LOG FILE FIRST LAST NAME    where the first complaint is that is this function's own
+#   each COMMAND..                  COMMAND with each line of standard input behind it, as many at a time as there are processors, at most four
 #
 # An edit is a line on what it does, then `file:`, `old:` and `new:`, each with one line of text, as rt's must-fail edits are. Its files are named from the
 # folder that it is applied to.
 # shellcheck shell=bash
 
 jobs=${RT_JOBS:-$(nproc)}
+[ "$jobs" -le 4 ] || jobs=4
 
 copy() { # FROM TO
     mkdir -p "$2"
     cp -R "$1/crates" "$1/crates.txt" "$2/"
 }
 
-# By the stamps alone, in a copy without libraries: what is not as its stamp says cannot be proved there. So nothing is written in FROM, where another script may be at work.
+# By the stamps, in a copy without libraries, so that nothing is written in FROM, where another script may be at work.
 is_proved() { # FROM ROOM CRATE..
     local from=$1 room=$2
     shift 2
+    if [ ! -d "$from/target/stamp" ]; then
+        echo "nothing is proved yet; run rt check first"
+        return 1
+    fi
     copy "$from" "$room"
     mkdir "$room/target"
-    cp -R "$from/target/stamp" "$room/target/" 2>/dev/null
+    cp -R "$from/target/stamp" "$room/target/"
     (cd "$room" && rt check "$@") >"$room/log" 2>&1 && ! grep -q '^rt: .* proved ([0-9]* s)$' "$room/log" && return
-    echo "not proved as it stands; run rt check first:"
-    grep '^rt: .*PROVED\|^rt: .* proved ([0-9]* s)$' "$room/log" | head -n 3
+    echo "not all is proved as it stands; run rt check first:"
+    grep '^rt: ' "$room/log" | grep -v unchanged
     return 1
 }
 
@@ -45,21 +51,30 @@ link_proved() { # FROM TO
 }
 
 forget() { # FROM TO
-    local crate
-    for crate in "$2"/crates/*; do
+    local crate changed
+    changed=$(for crate in "$2"/crates/*; do
         diff -rq "$1/crates/$(basename "$crate")" "$crate" >/dev/null 2>&1 || basename "$crate"
-    done | awk '
-        NR == FNR { found[$0]; next }
-        { sub(/#.*/, ""); colon = index($0, ":"); if (colon) uses[substr($0, 1, colon - 1)] = substr($0, colon + 1) " " }
+    done | tr '\n' ' ')
+    awk -v changed="$changed" '
+        { sub(/#.*/, ""); gsub(/[ \t]+/, " "); colon = index($0, ":") }
+        colon { name = substr($0, 1, colon - 1); gsub(/ /, "", name); uses[name] = substr($0, colon + 1) " " }
         END {
+            split(changed, words, " ")
+            for (w in words) found[words[w]]
             do {
                 more = 0
                 for (crate in uses) if (!(crate in found)) for (f in found) if (index(uses[crate], " " f " ")) { found[crate]; more = 1; break }
             } while (more)
             for (f in found) print f
-        }' - "$2/crates.txt" | while IFS= read -r crate; do
-        rm -rf "$2/target/rlib/$crate.rlib" "$2/target/stamp/$crate"
+        }' "$2/crates.txt" | while IFS= read -r crate; do
+        [ -z "$crate" ] || rm -rf "$2/target/rlib/$crate.rlib" "$2/target/stamp/$crate"
     done
+}
+
+untouched() { # FROM MARK
+    [ -z "$(find "$1/target/rlib" -newer "$2" -print -quit)" ] && return
+    echo "something was written below target/rlib, which only rt may do: remove target, and run rt check"
+    return 1
 }
 
 # Replaces the one place of FILE that has OLD by NEW.
@@ -78,7 +93,10 @@ apply() { # EDIT FOLDER
     local line file='' old='' pairs=0
     while IFS= read -r line || [ -n "$line" ]; do
         case $line in
-        'file: '*) file=${line#file: } ;;
+        'file: '*)
+            file=${line#file: }
+            case $file in *..*) return 1 ;; esac
+            ;;
         'old: '*) old=${line#old: } ;;
         'new: '*)
             replace "$2/$file" "$old" "${line#new: }" || return 1
@@ -89,17 +107,23 @@ apply() { # EDIT FOLDER
     [ "$pairs" -gt 0 ]
 }
 
-# An edit is refused as it should be if a proof is refused because a fact fails. It is unfit if the prover could not make sense of it: a definition or a contract is
-# no longer understood, a name is missing, or a proof asks for a place that the code no longer has, so that another shape of the code and not its meaning is refused.
+# What a complaint says where a fact fails: two sides that should be the same are not, or something does not follow.
+failing='give a proof of that as the last argument|as printed, the two (types|sides)|computed as far as they go, the two types|expected type|no equation of the list has an instance'
+failing="$failing|no proof of|does not follow from what it read|: error: \`[^\`]*\`: \`[^\`]*\`\$"
+
+# An edit is refused as it should be if proofs are refused because a fact fails. It is unfit if the prover could not make sense of it: a complaint is in a definition, a contract or the
+# source, or it says something else, as that a name is not known, or that the code no longer has a place that the proof asks for; then another shape is refused, not another meaning.
 told() { # STATUS LOG
     if [ "$1" -eq 0 ]; then
         echo survived
     elif [ "$1" -ne 1 ] || ! grep -qx 'logic=not-proved' "$2"; then
         echo unread
-    elif grep -qE '/specs/[^ ]*: error|/src/[^ ]*: error|is not in scope|has no field|has no function|expected type `tie\.' "$2"; then
+    elif grep -qE '/(crates/[^/ ]*|must-fail/[^/ ]*/[^/ ]*)/(specs|src)/[^ ]*: error|expected type `tie\.' "$2" || grep -E ': error' "$2" | grep -qvE "was not admitted|$failing"; then
         echo unfit
-    else
+    elif grep -E ': error' "$2" | grep -qE "$failing" || grep -q '^note: [^ ]*: it is not proved' "$2"; then
         echo refused
+    else
+        echo unfit
     fi
 }
 
@@ -132,7 +156,7 @@ body() { # EDIT FOLDER
 # In its own proof, or where rattle makes the proof, at its line of the source. That something below it was not admitted is no complaint of its own.
 own() { # LOG FILE FIRST LAST NAME
     {
-        grep -E "/proofs/([^ :]*/)?$5/Proof\.antt:[0-9]+:[0-9]+: error: " "$1" | grep -v 'was not admitted' | grep -oE '^[^ ]*: error'
+        grep -E "/proofs/([^ :]*/)?$5/Proof\.antt:[0-9]+:[0-9]+: error: " "$1" | grep -E "$failing" | grep -v 'was not admitted' | grep -oE '^[^ ]*: error'
         awk -v file="/$2:" -v first="$3" -v last="$4" '
             /^note: [^ ]*: it is not proved/ && (at = index($2, file)) {
                 split(substr($2, at + length(file)), where, ":")
