@@ -12,8 +12,8 @@ use Rattle.chain.specs.Refusals.{verdictOf}
 use Rattle.chain.specs.Fields.{withChips, withChip, withEnable, withIack, withResponse, withEvent}
 use Rattle.chain.specs.Pulse.{selected, firstPulse, fallen, risen, risenAfter}
 use Rattle.chain.specs.declared.Chain.{Chain}
-use Rattle.chain.specs.declared.Event.{Event}
-use Rattle.chain.specs.declared.Event.the-variants.{Command, Data, Status, Read, Line, Enable, Fall, Rise}
+use Rattle.event.specs.declared.Event.{Event}
+use Rattle.event.specs.declared.Event.the-variants.{Command, Data, Status, Read, Line, Enable, Fall, Rise}
 use Rattle.chain.specs.declared.Reply.{Reply}
 use Rattle.chain.specs.declared.Response.{Response}
 use Rattle.chain.specs.declared.Response.the-variants.{Idle, UnderWay}

@@ -21,8 +21,8 @@ use Rattle.chain.specs.Refusals.{checks, notBelowCount, noSuchChip, noSu
 use Rattle.chain.specs.Sound.{sound}
 use Rattle.chain.specs.Views.{viewVerdict}
 use Rattle.chain.specs.declared.Chain.{Chain}
-use Rattle.chain.specs.declared.Event.{Event}
-use Rattle.chain.specs.declared.Event.the-variants.{Command, Data, Status, Read, Line, Enable, Fall, Rise}
+use Rattle.event.specs.declared.Event.{Event}
+use Rattle.event.specs.declared.Event.the-variants.{Command, Data, Status, Read, Line, Enable, Fall, Rise}
 use Rattle.chain.proofs.Soundness.{count-le, chip-sound}
 
 pub passed-sound : (e : Event) (s : Chain) → verdictOf e s ≡ Accepted → sound s ≡ true

@@ -12,8 +12,8 @@ use Rattle.chain.specs.Fields.{withChip, withIack, withResponse, zeroCha
 use Rattle.chain.specs.Sound.{sound}
 use Rattle.chain.specs.Start.{started, startOf}
 use Rattle.chain.specs.declared.Chain.{Chain}
-use Rattle.chain.specs.declared.Event.{Event}
-use Rattle.chain.specs.declared.Event.the-variants.{Command, Data, Line, Fall}
+use Rattle.event.specs.declared.Event.{Event}
+use Rattle.event.specs.declared.Event.the-variants.{Command, Data, Line, Fall}
 use Rattle.chain.specs.declared.Response.the-variants.{UnderWay}
 use Rattle.chain.proofs.Rules.{rules}
 

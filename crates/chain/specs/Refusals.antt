@@ -14,8 +14,8 @@ use Rattle.refusal.specs.declared.Verdict.{Verdict}
 use Rattle.chain.specs.Fields.{chipAt}
 use Rattle.chain.specs.Sound.{sound}
 use Rattle.chain.specs.declared.Chain.{Chain}
-use Rattle.chain.specs.declared.Event.{Event}
-use Rattle.chain.specs.declared.Event.the-variants.{Command, Data, Status, Read, Line, Enable, Fall, Rise}
+use Rattle.event.specs.declared.Event.{Event}
+use Rattle.event.specs.declared.Event.the-variants.{Command, Data, Status, Read, Line, Enable, Fall, Rise}
 
 -- 1: chain not sound
 abbrev pub notSound : Chain → Bool × Refusal

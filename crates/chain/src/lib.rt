@@ -41,21 +41,6 @@ pub struct Chain {
     pub event: u16,
 }
 
-// The eight events, in the order of their kinds 1 to 8.
-pub enum Event {
-    // Chip and code.
-    Command(u8, u8),
-    // Chip and byte.
-    Data(u8, u8),
-    Status(u8),
-    Read(u8),
-    // Chip, channel and level.
-    Line(u8, u8, u8),
-    Enable(u8),
-    Fall,
-    Rise,
-}
-
 // The answer, and the chain handed back.
 pub struct Outcome {
     pub answer: Answer,

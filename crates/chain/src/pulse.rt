@@ -11,7 +11,7 @@ ghost use Rattle.chain.specs.Fields.{chipAt, oneMore, withIack, withResp
 ghost use Rattle.chain.specs.Pulse.{answeringChip, replyOf, selected, firstPulse, driven, risenAfter, risen};
 ghost use Rattle.chain.specs.Sound.{sound};
 ghost use Rattle.refusal.specs.declared.Answer.the-variants.{Done, Byte};
-ghost use Rattle.chain.specs.declared.Event.the-variants.{Fall};
+ghost use Rattle.event.specs.declared.Event.the-variants.{Fall};
 ghost use Rattle.chain.specs.declared.Response.the-variants.{UnderWay};
 use crate::Chain;
 use crate::Outcome;

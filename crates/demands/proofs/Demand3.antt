@@ -15,8 +15,8 @@ use Rattle.search.proofs.Rotating.{placeOf}
 use Rattle.chain.specs.Events.{eventOf}
 use Rattle.chain.specs.Fields.{chipAt}
 use Rattle.chain.specs.declared.Chain.{Chain}
-use Rattle.chain.specs.declared.Event.{Event}
-use Rattle.chain.specs.declared.Event.the-variants.{Fall}
+use Rattle.event.specs.declared.Event.{Event}
+use Rattle.event.specs.declared.Event.the-variants.{Fall}
 use Rattle.demands.specs.Along.{after, along}
 use Rattle.demands.specs.Demand3.{Demand3}
 use Rattle.demands.specs.Wait.{waits, resets, isWait, Waited, isFirstPulse, answersIt, answersAnother, others, reaches, isCounted, pulses}

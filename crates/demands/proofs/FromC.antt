@@ -32,7 +32,8 @@ use Rattle.image.specs.Reading.{byte, chainIn, isImage}
 use Rattle.am9519a.specs.Calls.{RunCalled, notAnImage, shortBuffer, called, viewCheck, runCheck, tableBytes, pictureBytes, startCall, runCall, registersCall, pinsCall}
 use Rattle.demands.specs.Agree.{Agree}
 use Rattle.demands.specs.FromC.{isBeforeAny, noImage, Left, FromC, BytesAgree, AsTheModel}
-use Rattle.demands.specs.Table.{Entry, Numbered, given, runEntries, listedEntries, lastEntries, fourBytes}
+use Rattle.event.specs.Numbers.{Numbered}
+use Rattle.demands.specs.Table.{Entry, given, runEntries, listedEntries, lastEntries, fourBytes}
 use Rattle.demands.proofs.Agree.{one-state}
 use Rattle.demands.proofs.Rules.{by-the-rules}
 use Rattle.demands.proofs.Runs.{runs-keep}

@@ -15,7 +15,7 @@ use Rattle.run.proofs.Before.{before-room, refused-before, none-before}
 use Rattle.run.proofs.Count.{accepted-count, no-more}
 use Rattle.run.proofs.Steps.{goes-on, noted-length, run-through}
 use Rattle.run.specs.List.{listedAt}
-use Rattle.run.specs.Run.{Report, listLength, beforeAny, stepOf, noted, stopped, runFrom, acceptedFrom, runOf}
+use Rattle.run.specs.Run.{Report, listLength, beforeAny, listedOutcome, noted, stopped, runFrom, acceptedFrom, runOf}
 use Rattle.demands.specs.Runs.{Performed}
 
 -- an event's two bytes, and the other bytes of the results
@@ -53,17 +53,17 @@ record Leaves (bytes : List ℕ) (n : ℕ) (s : Chain) (results : List ℕ) (r :
 
 module _ (bytes : List ℕ) (n : ℕ) (s : Chain) (results : List ℕ) (r : Report) (a : ℕ) where
   abbrev answer : Handed
-  answer = handed (stepOf (listedAt bytes n) s .answer)
+  answer = handed (listedOutcome (listedAt bytes n) s .answer)
 
   abbrev next : Chain
-  next = stepOf (listedAt bytes n) s .chain
+  next = listedOutcome (listedAt bytes n) s .chain
 
-  module _ (on : isAccepted (verdictIn (stepOf (listedAt bytes n) s .answer)) ≡ true)
+  module _ (on : isAccepted (verdictIn (listedOutcome (listedAt bytes n) s .answer)) ≡ true)
       (rest : Leaves bytes (n + 1) next (noted n answer results) r a)
     where
       -- after its first event a run goes on as from the next
       goes : (left k : ℕ) → left ≡ suc k → runFrom left bytes n s results .ran .chain ≡ runFrom k bytes (n + 1) next (noted n answer results) .ran .chain
-      goes left k is = ap (λ (r : Report). r .ran .chain) (goes-on left k bytes n s results (stepOf (listedAt bytes n) s) is refl on)
+      goes left k is = ap (λ (r : Report). r .ran .chain) (goes-on left k bytes n s results (listedOutcome (listedAt bytes n) s) is refl on)
 
       first : 2 * (n + (a + 1)) ≤ length results → Performed bytes n s next (r .results)
       first room =

@@ -20,9 +20,9 @@ use Rattle.run.proofs.Before as before-any
 use Rattle.run.proofs.Count as count
 use Rattle.run.proofs.Steps.{step-sound, run-through}
 use Rattle.run.specs.List.{listedAt}
-use Rattle.run.specs.Run.{Report, listLength, beforeAny, stepOf, stopped, runFrom, acceptedFrom, runOf}
-use Rattle.run.specs.declared.Listed.{Listed}
-use Rattle.run.specs.declared.Listed.the-variants.{Known, Unknown}
+use Rattle.run.specs.Run.{Report, listLength, beforeAny, listedOutcome, stopped, runFrom, acceptedFrom, runOf}
+use Rattle.event.specs.declared.Listed.{Listed}
+use Rattle.event.specs.declared.Listed.the-variants.{Known, Unknown}
 use Rattle.demands.proofs.Kept.{no-event}
 use Rattle.demands.proofs.Performed.{performed}
 use Rattle.demands.specs.Runs.{Runs}
@@ -32,8 +32,8 @@ zero-is-accepted Done = refl
 zero-is-accepted (Byte b) = refl
 zero-is-accepted (Refused why) = sym (ne-eqb (refusalNumber why) 0 (not-zero why))
 
-step-number : (l : Listed) (s : Chain) → isAccepted (verdictIn (stepOf l s .answer)) ≡ true → stepOf l s .chain .event ≡ (s .event + 1) % 65536
-step-number (Known e) s h = number.number-counts e s (eqb-true _ 0 (sym (zero-is-accepted (stepOf (Known e) s .answer)) ∙ h))
+step-number : (l : Listed) (s : Chain) → isAccepted (verdictIn (listedOutcome l s .answer)) ≡ true → listedOutcome l s .chain .event ≡ (s .event + 1) % 65536
+step-number (Known e) s h = number.number-counts e s (eqb-true _ 0 (sym (zero-is-accepted (listedOutcome (Known e) s .answer)) ∙ h))
 step-number Unknown s h = not-both h
 
 one-more : (n m a : ℕ) → m ≡ (n + 1) % 65536 → (m + a) % 65536 ≡ (n + (a + 1)) % 65536
@@ -45,8 +45,8 @@ from-number bytes =
     run-through bytes (λ n s results r k. s .event < 65536 → r .ran .chain .event ≡ (s .event + k) % 65536)
     (λ n s results v h. no-event (s .event) h)
     (λ n s results r k on rest h.
-    let is : stepOf (listedAt bytes n) s .chain .event ≡ (s .event + 1) % 65536 = step-number (listedAt bytes n) s on in
-    rest (subst (λ (m : ℕ). m < 65536) (sym is) (mod-lt (s .event + 1) (lit< tt))) ∙ one-more (s .event) (stepOf (listedAt bytes n) s .chain .event) k is)
+    let is : listedOutcome (listedAt bytes n) s .chain .event ≡ (s .event + 1) % 65536 = step-number (listedAt bytes n) s on in
+    rest (subst (λ (m : ℕ). m < 65536) (sym is) (mod-lt (s .event + 1) (lit< tt))) ∙ one-more (s .event) (listedOutcome (listedAt bytes n) s .chain .event) k is)
 
 from-sound : (bytes : List ℕ) (left n : ℕ) (s : Chain) (results : List ℕ) → sound s ≡ true → sound (runFrom left bytes n s results .ran .chain) ≡ true
 from-sound bytes =

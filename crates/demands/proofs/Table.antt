@@ -27,16 +27,17 @@ use Rattle.chain.specs.Start.{startOf}
 use Rattle.refusal.specs.declared.Answer.{Answer}
 use Rattle.refusal.specs.declared.Answer.the-variants.{Done, Byte}
 use Rattle.chain.specs.declared.Chain.{Chain}
-use Rattle.chain.specs.declared.Event.{Event}
-use Rattle.chain.specs.declared.Event.the-variants.{Command, Data, Status, Read, Line, Enable, Fall, Rise}
+use Rattle.event.specs.declared.Event.{Event}
+use Rattle.event.specs.declared.Event.the-variants.{Command, Data, Status, Read, Line, Enable, Fall, Rise}
 use Rattle.chain.specs.declared.Outcome.{Outcome}
 use Rattle.chain.specs.declared.Pins.{Pins}
 use Rattle.chain.specs.declared.Registers.{Registers}
 use Rattle.run.proofs.Before.{refused-before, none-before}
 use Rattle.run.proofs.Steps.{goes-on, stops}
-use Rattle.run.specs.List.{listed, listedAt}
-use Rattle.run.specs.Run.{Report, listLength, brokenEvent, shortResults, beforeAny, stepOf, noted, stopped, runFrom, runOf}
-use Rattle.demands.specs.Table.{Entry, given, numbered, inNumbers, eventEntries, runEntries, listedEntries, lastEntries, ByTheTable}
+use Rattle.event.specs.Numbers.{listed, numbered, inNumbers}
+use Rattle.run.specs.List.{listedAt}
+use Rattle.run.specs.Run.{Report, listLength, brokenEvent, shortResults, beforeAny, listedOutcome, noted, stopped, runFrom, runOf}
+use Rattle.demands.specs.Table.{Entry, given, eventEntries, runEntries, listedEntries, lastEntries, ByTheTable}
 use Rattle.demands.proofs.Kept.{answers-zero}
 
 -- tests, each with its refusal, as entries of the table
@@ -107,7 +108,7 @@ answer-number (Answer.Refused why) = refl
 -- four bytes of a list: one of the eight events, whatever stands in the bytes that it does not use, or a kind outside 1 to 8
 abbrev Told : ℕ → ℕ → ℕ → ℕ → Chain → Type 0
 Told kind chip channel value s =
-    verdictNumber (verdictIn (stepOf (listed kind chip channel value) s .answer)) ≡ given (listedEntries (numbered kind chip channel value) s)
+    verdictNumber (verdictIn (listedOutcome (listed kind chip channel value) s .answer)) ≡ given (listedEntries (numbered kind chip channel value) s)
 
 known-number : (e : Event) (s : Chain) → verdictNumber (verdictIn (eventOf e s .answer)) ≡ given (eventEntries (inNumbers e) s)
 known-number e s = answer-number (eventOf e s .answer) ∙ event-number e s
@@ -156,7 +157,7 @@ from-number zero bytes n s results = rw (le-ltb n (n + 0) (omega arith)) refl
 from-number (suc left) bytes n s results = by (isAccepted (verdictIn (o .answer))) refl (from-number left bytes (n + 1) (o .chain) (noted n (handed (o .answer)) results))
   where
     o : Outcome
-    o = stepOf (listedAt bytes n) s
+    o = listedOutcome (listedAt bytes n) s
 
     rest : Report
     rest = runFrom left bytes (n + 1) (o .chain) (noted n (handed (o .answer)) results)

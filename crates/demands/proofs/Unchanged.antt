@@ -18,7 +18,7 @@ use Rattle.chain.specs.Refusals.{verdictOf}
 use Rattle.chain.specs.Sound.{countSound}
 use Rattle.chain.specs.Start.{startOf}
 use Rattle.chain.specs.declared.Chain.{Chain}
-use Rattle.chain.specs.declared.Event.{Event}
+use Rattle.event.specs.declared.Event.{Event}
 use Rattle.chain.specs.declared.Outcome.{Outcome}
 use Rattle.chain.specs.declared.Pins.{Pins}
 use Rattle.chain.specs.declared.Registers.{Registers}
@@ -26,7 +26,7 @@ use Rattle.run.proofs.Before as before-any
 use Rattle.run.proofs.Count.{no-more}
 use Rattle.run.proofs.Steps.{goes-on, noted-length, run-through}
 use Rattle.run.specs.List.{listedAt}
-use Rattle.run.specs.Run.{Report, listLength, beforeAny, stepOf, noted, runFrom, acceptedFrom, runOf}
+use Rattle.run.specs.Run.{Report, listLength, beforeAny, listedOutcome, noted, runFrom, acceptedFrom, runOf}
 use Rattle.demands.specs.Unchanged.{unrefused, Unchanged}
 use Rattle.demands.proofs.Kept.{answers-zero}
 use Rattle.demands.proofs.Performed.{noted-other, none-left}
@@ -70,7 +70,7 @@ from-length : (bytes : List ℕ) (left n : ℕ) (s : Chain) (results : List ℕ)
 from-length bytes =
     run-through bytes (λ n s results r k. length (r .results) ≡ length results)
     (λ n s results v. refl)
-    (λ n s results r k on rest. rest ∙ noted-length n (handed (stepOf (listedAt bytes n) s .answer)) results)
+    (λ n s results r k on rest. rest ∙ noted-length n (handed (listedOutcome (listedAt bytes n) s .answer)) results)
 
 -- the n-th event's bytes stand below those of the events after it
 noted-past : (n : ℕ) (h : Handed) (results : List ℕ) (k : ℕ) → 2 * (n + 1) ≤ k → getD (noted n h results) k 0 ≡ getD results k 0
@@ -81,14 +81,14 @@ from-untouched : (bytes : List ℕ) (left n : ℕ) (s : Chain) (results : List �
 from-untouched bytes =
     run-through bytes (λ n s results r k. (i : ℕ) → 2 * (n + k) ≤ i → getD (r .results) i 0 ≡ getD results i 0)
     (λ n s results v i past. refl)
-    (λ n s results r k on rest i past. rest i (omega arith) ∙ noted-past n (handed (stepOf (listedAt bytes n) s .answer)) results i (omega arith))
+    (λ n s results r k on rest i past. rest i (omega arith) ∙ noted-past n (handed (listedOutcome (listedAt bytes n) s .answer)) results i (omega arith))
 
 from-kept : (bytes : List ℕ) (left n : ℕ) (s : Chain) (results : List ℕ)
     → runFrom (acceptedFrom left bytes n s) bytes n s results ≡ unrefused (runFrom left bytes n s results)
 from-kept bytes =
     run-through bytes (λ n s results r k. runFrom k bytes n s results ≡ unrefused r)
     (λ n s results v. none-left bytes n s results)
-    (λ n s results r k on rest. goes-on (k + 1) k bytes n s results (stepOf (listedAt bytes n) s) (omega arith) refl on ∙ rest)
+    (λ n s results r k on rest. goes-on (k + 1) k bytes n s results (listedOutcome (listedAt bytes n) s) (omega arith) refl on ∙ rest)
 
 kept : (s : Chain) (bytes : List ℕ) (limit : ℕ) (results : List ℕ) → isAccepted (beforeAny s bytes results) ≡ true
     → runOf s bytes (runOf s bytes limit results .ran .accepted) results ≡ unrefused (runOf s bytes limit results)

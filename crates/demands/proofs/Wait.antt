@@ -39,13 +39,15 @@ use Rattle.chain.specs.Pulse.{replyOf, selected, firstPulse, fallen, risenAfter
 use Rattle.chain.specs.Refusals.{verdictOf}
 use Rattle.chain.specs.Sound.{sound}
 use Rattle.chain.specs.declared.Chain.{Chain}
-use Rattle.chain.specs.declared.Event.{Event}
-use Rattle.chain.specs.declared.Event.the-variants.{Command, Data, Status, Read, Line, Enable, Fall, Rise}
+use Rattle.event.specs.declared.Event.{Event}
+use Rattle.event.specs.declared.Event.the-variants.{Command, Data, Status, Read, Line, Enable, Fall, Rise}
 use Rattle.chain.specs.declared.Reply.{Reply}
 use Rattle.chain.specs.declared.Response.{Response}
 use Rattle.chain.specs.declared.Response.the-variants.{Idle, UnderWay}
+use Rattle.event.proofs.Told.{is-fall}
+use Rattle.event.specs.Numbers.{isFall}
 use Rattle.demands.specs.Kept.{replaces}
-use Rattle.demands.specs.Wait.{waits, isFall, isFirstPulse, isFor, isForAnother, answersIt, answersAnother, resets, reaches, isCounted}
+use Rattle.demands.specs.Wait.{waits, isFirstPulse, isFor, isForAnother, answersIt, answersAnother, resets, reaches, isCounted}
 use Rattle.demands.proofs.Kept.{events-keep}
 
 -- what a waiting request says of its chip
@@ -192,16 +194,6 @@ no-other : (fp : Bool) (response : Response) (i channel : ℕ) → fp && isRespo
 no-other false response i channel e = refl
 no-other true Idle i channel e = refl
 no-other true (UnderWay r) i channel e = ap (λ (b : Bool). b && not (eqb (r .channel) channel)) e
-
-is-fall : (e : Event) → isFall e ≡ true → e ≡ Fall
-is-fall (Command i code) e = not-both e
-is-fall (Data i byte) e = not-both e
-is-fall (Status i) e = not-both e
-is-fall (Read i) e = not-both e
-is-fall (Line i channel level) e = not-both e
-is-fall (Enable level) e = not-both e
-is-fall Fall e = refl
-is-fall Rise e = not-both e
 
 -- the parts of a first pulse
 pub record FirstPulse (e : Event) (s : Chain) : Type 0 where

@@ -33,17 +33,17 @@ use Rattle.chain.specs.Refusals.{verdictOf}
 use Rattle.chain.specs.Sound.{countSound}
 use Rattle.chain.specs.Start.{started, startOf}
 use Rattle.chain.specs.declared.Chain.{Chain}
-use Rattle.chain.specs.declared.Event.{Event}
-use Rattle.chain.specs.declared.Event.the-variants as event
+use Rattle.event.specs.declared.Event.{Event}
+use Rattle.event.specs.declared.Event.the-variants as event
 use Rattle.chain.specs.declared.Outcome.{Outcome}
 use Rattle.chain.specs.declared.Reply.{Reply}
 use Rattle.chain.specs.declared.Response.{Response}
 use Rattle.chain.specs.declared.Response.the-variants.{Idle, UnderWay}
 use Rattle.run.proofs.Steps.{run-through}
 use Rattle.run.specs.List.{listedAt}
-use Rattle.run.specs.Run.{listLength, stepOf, runFrom, runOf}
-use Rattle.run.specs.declared.Listed.{Listed}
-use Rattle.run.specs.declared.Listed.the-variants.{Known, Unknown}
+use Rattle.run.specs.Run.{listLength, listedOutcome, runFrom, runOf}
+use Rattle.event.specs.declared.Listed.{Listed}
+use Rattle.event.specs.declared.Listed.the-variants.{Known, Unknown}
 use Rattle.image.proofs.Whole.{same-chips, whole-with}
 use Rattle.image.specs.OneToOne.{WholeChip, Whole}
 use Rattle.demands.proofs.Runs as runs
@@ -148,7 +148,7 @@ unfolding chainFields judged accepted refused counted
 judged-whole (Refused why) e s w = w
 judged-whole Accepted e s w = same-chips (changed e s) _ refl (changed-whole e s w)
 
-step-whole : (listed : Listed) (s : Chain) → Whole s → Whole (stepOf listed s .chain)
+step-whole : (listed : Listed) (s : Chain) → Whole s → Whole (listedOutcome listed s .chain)
 unfolding eventOf
 step-whole (Known e) s w = judged-whole (verdictOf e s) e s w
 step-whole Unknown s w = w

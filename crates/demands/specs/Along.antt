@@ -7,7 +7,7 @@ use Rattle.bits.specs.Below.{digit}
 use Rattle.refusal.specs.Answers.{handed}
 use Rattle.chain.specs.Events.{eventOf}
 use Rattle.chain.specs.declared.Chain.{Chain}
-use Rattle.chain.specs.declared.Event.{Event}
+use Rattle.event.specs.declared.Event.{Event}
 
 -- the chain after a list of events
 unfoldable pub after : Chain → List Event → Chain

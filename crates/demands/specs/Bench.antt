@@ -8,7 +8,7 @@ use Rattle.chain.specs.Views.{tabled, pictured, registerView, pinView}
 use Rattle.chain.specs.Events.{eventOf}
 use Rattle.chain.specs.Start.{startOf}
 use Rattle.chain.specs.declared.Chain.{Chain}
-use Rattle.chain.specs.declared.Event.{Event}
+use Rattle.event.specs.declared.Event.{Event}
 
 pub data Step : Type 0 where
   -- the event is accepted, and no byte is driven or read

@@ -6,8 +6,8 @@ use Prim.Native.Nat.{ℕ}
 use Rattle.refusal.specs.Answers.{handed}
 use Rattle.chain.specs.Events.{eventOf}
 use Rattle.chain.specs.declared.Chain.{Chain}
-use Rattle.chain.specs.declared.Event.{Event}
-use Rattle.chain.specs.declared.Event.the-variants.{Command, Data, Status, Read, Line, Fall, Rise}
+use Rattle.event.specs.declared.Event.{Event}
+use Rattle.event.specs.declared.Event.the-variants.{Command, Data, Status, Read, Line, Fall, Rise}
 use Rattle.demands.specs.Bench.{Step, accepted, gives, refused, shows, onBench, gintPinOf, eiPinOf, pausePin, irrOf, isrOf, imrOf}
 
 -- K1 start, status: 40. (As after reset, so all is masked)

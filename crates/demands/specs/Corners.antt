@@ -1,6 +1,6 @@
 -- Corners that the paper decides in half a sentence, and docs/DECISIONS.md in a whole one: a bench case for each, in the form of K1 to K12.
 use mathlib.Core.List.{List, [], _∷_}
-use Rattle.chain.specs.declared.Event.the-variants.{Command, Data, Status, Read, Enable, Fall, Rise}
+use Rattle.event.specs.declared.Event.the-variants.{Command, Data, Status, Read, Enable, Fall, Rise}
 use Rattle.demands.specs.Bench.{Step, accepted, gives, refused, shows, onBench, gintPinOf, eiPinOf, ripPin, pausePin, irrOf, isrOf, imrOf}
 use Rattle.demands.specs.Cases.{Case, case}
 

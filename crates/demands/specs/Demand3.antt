@@ -8,7 +8,7 @@ use mathlib.Core.Path.{_≡_}
 use Prim.Native.Nat.{ℕ, _≤_}
 use Rattle.chain.specs.Fields.{chipAt}
 use Rattle.chain.specs.declared.Chain.{Chain}
-use Rattle.chain.specs.declared.Event.{Event}
+use Rattle.event.specs.declared.Event.{Event}
 use Rattle.demands.specs.Along.{after}
 use Rattle.demands.specs.Wait.{waits, Waited, answersIt, others, isCounted, pulses}
 use Rattle.demands.specs.Worked.{WorkedWait, BehindOthers, RefusedFalls}

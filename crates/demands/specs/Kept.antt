@@ -16,8 +16,8 @@ use Rattle.chain.specs.Refusals.{verdictOf}
 use Rattle.chain.specs.Sound.{sound}
 use Rattle.chain.specs.Start.{startOf}
 use Rattle.chain.specs.declared.Chain.{Chain}
-use Rattle.chain.specs.declared.Event.{Event}
-use Rattle.chain.specs.declared.Event.the-variants.{Command, Data, Status, Read, Line, Enable, Fall, Rise}
+use Rattle.event.specs.declared.Event.{Event}
+use Rattle.event.specs.declared.Event.the-variants.{Command, Data, Status, Read, Line, Enable, Fall, Rise}
 use Rattle.demands.specs.Along.{after, accepts, acceptedIn}
 
 -- chip k is the one that an event may replace: the chip that it names, or that a first pulse selects, or whose response a rise may end

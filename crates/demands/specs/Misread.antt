@@ -1,6 +1,6 @@
 -- Document 01, "Misreadings that come easily": a bench case against each, in the form of K1 to K12.
 use mathlib.Core.List.{List, [], _∷_}
-use Rattle.chain.specs.declared.Event.the-variants.{Command, Data, Line, Fall, Rise}
+use Rattle.event.specs.declared.Event.the-variants.{Command, Data, Line, Fall, Rise}
 use Rattle.demands.specs.Bench.{Step, accepted, gives, shows, onBench, eiPinOf, eoPinOf, ripPin, pausePin, irrOf, isrOf}
 use Rattle.demands.specs.Cases.{Case, case}
 

@@ -40,8 +40,8 @@ use Rattle.chain.specs.Start.{startOf}
 use Rattle.chain.specs.Views.{registerView, pinView}
 use Rattle.refusal.specs.declared.Answer.{Answer}
 use Rattle.chain.specs.declared.Chain.{Chain}
-use Rattle.chain.specs.declared.Event.{Event}
-use Rattle.chain.specs.declared.Event.the-variants.{Command, Data, Status, Read, Line, Enable, Fall, Rise}
+use Rattle.event.specs.declared.Event.{Event}
+use Rattle.event.specs.declared.Event.the-variants.{Command, Data, Status, Read, Line, Enable, Fall, Rise}
 use Rattle.run.proofs.run.Reads as run-run
 use Rattle.run.specs.Run.{Report, runOf}
 use Rattle.am9519a.proofs.am9519a_candidate.Reads as am9519a-candidate

@@ -12,8 +12,8 @@ use Rattle.chain.specs.Views.{tabled, tableOf, pictureOf, registerView, pinView
 use Rattle.chain.specs.Events.{answerOf, changed, accepted, eventOf}
 use Rattle.chain.specs.Sound.{sound}
 use Rattle.chain.specs.declared.Chain.{Chain}
-use Rattle.chain.specs.declared.Event.{Event}
-use Rattle.chain.specs.declared.Event.the-variants.{Status}
+use Rattle.event.specs.declared.Event.{Event}
+use Rattle.event.specs.declared.Event.the-variants.{Status}
 use Rattle.chain.specs.declared.PinView.the-variants.{Picture}
 use Rattle.chain.specs.declared.RegisterView.the-variants.{Table}
 use Rattle.chain.specs.declared.Registers.{Registers}

@@ -11,13 +11,13 @@ use Rattle.chain.specs.Sound.{sound}
 use Rattle.refusal.specs.declared.Answer.{Answer}
 use Rattle.chain.specs.declared.Chain.{Chain}
 use Rattle.run.specs.List.{listedAt}
-use Rattle.run.specs.Run.{listLength, beforeAny, stepOf, acceptedFrom, runOf}
+use Rattle.run.specs.Run.{listLength, beforeAny, listedOutcome, acceptedFrom, runOf}
 
 -- the n-th event of a list, performed on one chain and leaving another, and its two bytes in the results: 1 and the byte driven or read, or 0 and 0
 pub record Performed (bytes : List ℕ) (n : ℕ) (before next : Chain) (results : List ℕ) : Type 0 where
-  pub chain : next ≡ stepOf (listedAt bytes n) before .chain
-  pub drove : getD results (2 * n) 0 ≡ handed (stepOf (listedAt bytes n) before .answer) .drove
-  pub byte : getD results (2 * n + 1) 0 ≡ handed (stepOf (listedAt bytes n) before .answer) .byte
+  pub chain : next ≡ listedOutcome (listedAt bytes n) before .chain
+  pub drove : getD results (2 * n) 0 ≡ handed (listedOutcome (listedAt bytes n) before .answer) .drove
+  pub byte : getD results (2 * n + 1) 0 ≡ handed (listedOutcome (listedAt bytes n) before .answer) .byte
 
 pub record Runs : Type 0 where
   -- a run that is not refused before any event accepts the events before the limit, the end or the first refusal

@@ -17,8 +17,8 @@ use Rattle.chain.specs.Fields.{chipAt}
 use Rattle.chain.specs.Sound.{sound}
 use Rattle.chain.specs.Start.{startOf}
 use Rattle.chain.specs.declared.Chain.{Chain}
-use Rattle.chain.specs.declared.Event.{Event}
-use Rattle.chain.specs.declared.Event.the-variants.{Command, Data, Status, Read, Line, Enable, Fall, Rise}
+use Rattle.event.specs.declared.Event.{Event}
+use Rattle.event.specs.Numbers.{Numbered, numbered, inNumbers}
 use Rattle.run.specs.Run.{Report, runOf}
 
 -- an entry of the table: a number, and whether its case applies
@@ -29,26 +29,6 @@ Entry = ℕ × Bool
 abbrev pub given : List Entry → ℕ
 given [] = 0
 given (entry ∷ entries) = cond (entry .1) (entry .0) (given entries)
-
--- an event by its kind, 1 to 8, and three numbers; those that its kind does not use do not matter
-pub record Numbered : Type 0 where
-  pub kind : ℕ
-  pub chip : ℕ
-  pub channel : ℕ
-  pub value : ℕ
-
-abbrev pub numbered : ℕ → ℕ → ℕ → ℕ → Numbered
-numbered kind chip channel value = record { kind = kind; chip = chip; channel = channel; value = value }
-
-abbrev pub inNumbers : Event → Numbered
-inNumbers (Command chip code) = numbered 1 chip 0 code
-inNumbers (Data chip byte) = numbered 2 chip 0 byte
-inNumbers (Status chip) = numbered 3 chip 0 0
-inNumbers (Read chip) = numbered 4 chip 0 0
-inNumbers (Line chip channel level) = numbered 5 chip channel level
-inNumbers (Enable level) = numbered 6 0 0 level
-inNumbers Fall = numbered 7 0 0 0
-inNumbers Rise = numbered 8 0 0 0
 
 -- chain not sound
 abbrev pub chainNotSound : Chain → Entry

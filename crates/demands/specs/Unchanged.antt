@@ -12,7 +12,7 @@ use Rattle.chain.specs.Events.{eventOf}
 use Rattle.chain.specs.Fields.{zeroChain}
 use Rattle.chain.specs.Start.{startOf}
 use Rattle.chain.specs.declared.Chain.{Chain}
-use Rattle.chain.specs.declared.Event.{Event}
+use Rattle.event.specs.declared.Event.{Event}
 use Rattle.run.specs.Run.{Report, beforeAny, stopped, runOf}
 
 -- a report that is the same but for its refusal

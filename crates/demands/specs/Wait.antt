@@ -17,8 +17,8 @@ use Rattle.chain.specs.Pins.{isIdle}
 use Rattle.chain.specs.Pulse.{selected}
 use Rattle.chain.specs.Sound.{sound}
 use Rattle.chain.specs.declared.Chain.{Chain}
-use Rattle.chain.specs.declared.Event.{Event}
-use Rattle.chain.specs.declared.Event.the-variants.{Command, Data, Status, Read, Line, Enable, Fall, Rise}
+use Rattle.event.specs.declared.Event.{Event}
+use Rattle.event.specs.Numbers.{inNumbers, isKind, isFall}
 use Rattle.chain.specs.declared.Response.{Response}
 use Rattle.chain.specs.declared.Response.the-variants.{Idle, UnderWay}
 use Rattle.demands.specs.Along.{along}
@@ -26,16 +26,6 @@ use Rattle.demands.specs.Along.{along}
 -- a chip that is armed, in interrupt mode and in rotating priority, and a request on it that is latched and unmasked
 abbrev pub waits : Chip → ℕ → Bool
 waits c channel = isArmed c && not (isPolled c) && isRotating c && isWaiting (c .irr) (c .imr) channel
-
-abbrev pub isFall : Event → Bool
-isFall (Command i code) = false
-isFall (Data i byte) = false
-isFall (Status i) = false
-isFall (Read i) = false
-isFall (Line i channel level) = false
-isFall (Enable level) = false
-isFall Fall = true
-isFall Rise = false
 
 -- a first pulse: an accepted fall without a response under way. A refused fall is no pulse
 abbrev pub isFirstPulse : Event → Chain → Bool
@@ -59,14 +49,7 @@ answersAnother i channel e s = isFirstPulse e s && isForAnother i channel (selec
 
 -- a command that resets chip i
 abbrev pub isResetOf : ℕ → Event → Bool
-isResetOf i (Command j code) = eqb j i && isReset code
-isResetOf i (Data j byte) = false
-isResetOf i (Status j) = false
-isResetOf i (Read j) = false
-isResetOf i (Line j channel level) = false
-isResetOf i (Enable level) = false
-isResetOf i Fall = false
-isResetOf i Rise = false
+isResetOf i e = isKind 1 e && eqb (inNumbers e .chip) i && isReset (inNumbers e .value)
 
 -- the event resets chip i: a refused reset resets nothing
 abbrev pub resets : ℕ → Event → Chain → Bool

@@ -7,8 +7,8 @@ use Prim.Native.Nat.{ℕ}
 use Rattle.chain.specs.Fields.{chipAt}
 use Rattle.chain.specs.Start.{startOf}
 use Rattle.chain.specs.declared.Chain.{Chain}
-use Rattle.chain.specs.declared.Event.{Event}
-use Rattle.chain.specs.declared.Event.the-variants.{Command, Data, Enable, Fall, Rise}
+use Rattle.event.specs.declared.Event.{Event}
+use Rattle.event.specs.declared.Event.the-variants.{Command, Data, Enable, Fall, Rise}
 use Rattle.demands.specs.Along.{after, acceptedIn}
 use Rattle.demands.specs.Wait.{waits, answersIt, Waited, reaches, isCounted, others, pulses}
 

@@ -9,8 +9,8 @@ use Rattle.chain.specs.Start.{startOf}
 use Rattle.refusal.specs.declared.Answer.{Answer}
 use Rattle.refusal.specs.declared.Answer.the-variants.{Done, Byte, Refused}
 use Rattle.chain.specs.declared.Chain.{Chain}
-use Rattle.chain.specs.declared.Event.{Event}
-use Rattle.chain.specs.declared.Event.the-variants.{Command, Data, Status, Read, Line, Enable, Fall, Rise}
+use Rattle.event.specs.declared.Event.{Event}
+use Rattle.event.specs.declared.Event.the-variants.{Command, Data, Status, Read, Line, Enable, Fall, Rise}
 use Rattle.report.specs.Messages.{malformedLine, refusedLine}
 use Rattle.page.specs.Page.{pageOf}
 use Rattle.report.specs.declared.Report.{Report}

@@ -9,7 +9,7 @@ ghost use Rattle.text.specs.Written.{written};
 use crate::messages::put_malformed;
 use crate::messages::put_refused;
 use chain::Chain;
-use chain::Event;
+use event::Event;
 use chain::Outcome;
 use page::put_page;
 use refusal::Answer;

@@ -12,7 +12,7 @@ use Rattle.chain.specs.declared.Chain.{Chain}
 use Rattle.chain.specs.declared.Outcome.{Outcome}
 use Rattle.run.proofs.Steps.{run-through}
 use Rattle.run.specs.List.{listedAt}
-use Rattle.run.specs.Run.{stepOf, runFrom, acceptedFrom}
+use Rattle.run.specs.Run.{listedOutcome, runFrom, acceptedFrom}
 
 pub accepted-count : (bytes : List ℕ) (left n : ℕ) (s : Chain) (results : List ℕ) → runFrom left bytes n s results .ran .accepted ≡ n + acceptedFrom left bytes n s
 accepted-count bytes =
@@ -28,5 +28,5 @@ pub no-more : (left : ℕ) (bytes : List ℕ) (n : ℕ) (s : Chain) → accepted
 unfolding acceptedFrom
 no-more zero bytes n s = omega arith
 no-more (suc left) bytes n s =
-    let o : Outcome = stepOf (listedAt bytes n) s in
+    let o : Outcome = listedOutcome (listedAt bytes n) s in
     one-or-none (isAccepted (verdictIn (o .answer))) (acceptedFrom left bytes (n + 1) (o .chain)) left (no-more left bytes (n + 1) (o .chain))

@@ -18,30 +18,30 @@ use Rattle.chain.specs.declared.Outcome.{Outcome}
 use Rattle.chain.specs.Events.{answerOf, accepted, refused, judged, eventOf}
 use Rattle.chain.specs.Pulse.{selected, driven, fallAnswer}
 use Rattle.chain.specs.Refusals.{verdictOf}
-use Rattle.chain.specs.declared.Event.{Event}
-use Rattle.chain.specs.declared.Event.the-variants.{Command, Data, Status, Read, Line, Enable, Fall, Rise}
+use Rattle.event.specs.declared.Event.{Event}
+use Rattle.event.specs.declared.Event.the-variants.{Command, Data, Status, Read, Line, Enable, Fall, Rise}
 use Rattle.chain.specs.declared.Response.{Response}
 use Rattle.chain.specs.declared.Response.the-variants.{Idle, UnderWay}
 use Rattle.run.specs.List.{listedAt}
-use Rattle.run.specs.Run.{Report, stepOf, noted, stopped, runFrom, acceptedFrom}
-use Rattle.run.specs.declared.Listed.{Listed}
-use Rattle.run.specs.declared.Listed.the-variants.{Known, Unknown}
+use Rattle.run.specs.Run.{Report, listedOutcome, noted, stopped, runFrom, acceptedFrom}
+use Rattle.event.specs.declared.Listed.{Listed}
+use Rattle.event.specs.declared.Listed.the-variants.{Known, Unknown}
 
 pub goes-on : (left rest : ℕ) (bytes : List ℕ) (n : ℕ) (s : Chain) (results : List ℕ) (o : Outcome) → left ≡ suc rest
-    → o ≡ stepOf (listedAt bytes n) s
+    → o ≡ listedOutcome (listedAt bytes n) s
     → isAccepted (verdictIn (o .answer)) ≡ true
     → runFrom left bytes n s results ≡ runFrom rest bytes (n + 1) (o .chain) (noted n (handed (o .answer)) results)
 unfolding runFrom
 goes-on left rest bytes n s results o more is on = simp (more, ← is, on)
 
 pub stops : (left rest : ℕ) (bytes : List ℕ) (n : ℕ) (s : Chain) (results : List ℕ) (o : Outcome) → left ≡ suc rest
-    → o ≡ stepOf (listedAt bytes n) s
+    → o ≡ listedOutcome (listedAt bytes n) s
     → isAccepted (verdictIn (o .answer)) ≡ false
     → runFrom left bytes n s results ≡ stopped (verdictIn (o .answer)) n s results
 unfolding runFrom
 stops left rest bytes n s results o more is off = simp (more, ← is, off)
 
-pub step-sound : (listed : Listed) (s : Chain) → sound s ≡ true → sound (stepOf listed s .chain) ≡ true
+pub step-sound : (listed : Listed) (s : Chain) → sound s ≡ true → sound (listedOutcome listed s .chain) ≡ true
 step-sound (Known e) s h = sound-kept e s h
 step-sound Unknown s h = h
 
@@ -60,14 +60,14 @@ either P false rest stop k on off = off
 
 pub run-through : (bytes : List ℕ) (P : OfRun)
     → ((n : ℕ) (s : Chain) (results : List ℕ) (v : Verdict) → P n s results (stopped v n s results) 0)
-    → ((n : ℕ) (s : Chain) (results : List ℕ) (r : Report) (k : ℕ) → isAccepted (verdictIn (stepOf (listedAt bytes n) s .answer)) ≡ true
-    → P (n + 1) (stepOf (listedAt bytes n) s .chain) (noted n (handed (stepOf (listedAt bytes n) s .answer)) results) r k
+    → ((n : ℕ) (s : Chain) (results : List ℕ) (r : Report) (k : ℕ) → isAccepted (verdictIn (listedOutcome (listedAt bytes n) s .answer)) ≡ true
+    → P (n + 1) (listedOutcome (listedAt bytes n) s .chain) (noted n (handed (listedOutcome (listedAt bytes n) s .answer)) results) r k
     → P n s results r (k + 1))
     → (left n : ℕ) (s : Chain) (results : List ℕ) → P n s results (runFrom left bytes n s results) (acceptedFrom left bytes n s)
 unfolding runFrom acceptedFrom
 run-through bytes P stop step zero n s results = stop n s results Accepted
 run-through bytes P stop step (suc left) n s results =
-    let o : Outcome = stepOf (listedAt bytes n) s in
+    let o : Outcome = listedOutcome (listedAt bytes n) s in
     let rest : Report = runFrom left bytes (n + 1) (o .chain) (noted n (handed (o .answer)) results) in
     let more : ℕ = acceptedFrom left bytes (n + 1) (o .chain) in
     either (P n s results) (isAccepted (verdictIn (o .answer))) rest (stopped (verdictIn (o .answer)) n s results) more
@@ -100,7 +100,7 @@ judged-same (Refused why) e s off = refl
 judged-same Accepted e s off = not-both (sym off ∙ answer-accepted e s)
 
 -- a listed event that is refused leaves the chain
-pub step-same : (listed : Listed) (s : Chain) → isAccepted (verdictIn (stepOf listed s .answer)) ≡ false → stepOf listed s .chain ≡ s
+pub step-same : (listed : Listed) (s : Chain) → isAccepted (verdictIn (listedOutcome listed s .answer)) ≡ false → listedOutcome listed s .chain ≡ s
 unfolding eventOf
 step-same (Known e) s off = judged-same (verdictOf e s) e s off
 step-same Unknown s off = refl

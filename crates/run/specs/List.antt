@@ -1,24 +1,9 @@
--- Events as four bytes each (document 01, "Views and runs"): kind 1 to 8, chip, channel, value; unused ones are ignored.
-use mathlib.Core.Bool.{cond}
+-- Lists of events as bytes (document 01, "Views and runs"): four an event, its numbers in their order.
 use mathlib.Core.List.{List}
 use Prim.Native.Nat.{ℕ, _+_, _*_}
-use lib.Dec.{eqb}
 use lib.ListN.{getD}
-use Rattle.chain.specs.declared.Event.the-variants.{Command, Data, Status, Read, Line, Enable, Fall, Rise}
-use Rattle.run.specs.declared.Listed.{Listed}
-use Rattle.run.specs.declared.Listed.the-variants.{Known, Unknown}
-
-abbrev pub listed : ℕ → ℕ → ℕ → ℕ → Listed
-listed kind chip channel value =
-    cond (eqb kind 1) (Known (Command chip value))
-    (cond (eqb kind 2) (Known (Data chip value))
-    (cond (eqb kind 3) (Known (Status chip))
-    (cond (eqb kind 4) (Known (Read chip))
-    (cond (eqb kind 5) (Known (Line chip channel value))
-    (cond (eqb kind 6) (Known (Enable value))
-    (cond (eqb kind 7) (Known Fall)
-    (cond (eqb kind 8) (Known Rise)
-    Unknown)))))))
+use Rattle.event.specs.Numbers.{listed}
+use Rattle.event.specs.declared.Listed.{Listed}
 
 -- the n-th event of a list of bytes, from 0
 unfoldable pub listedAt : List ℕ → ℕ → Listed

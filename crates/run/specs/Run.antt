@@ -16,8 +16,8 @@ use Rattle.refusal.specs.declared.Answer.{Answer}
 use Rattle.chain.specs.declared.Chain.{Chain}
 use Rattle.chain.specs.declared.Outcome.{Outcome}
 use Rattle.run.specs.List.{listedAt}
-use Rattle.run.specs.declared.Listed.{Listed}
-use Rattle.run.specs.declared.Listed.the-variants.{Known, Unknown}
+use Rattle.event.specs.declared.Listed.{Listed}
+use Rattle.event.specs.declared.Listed.the-variants.{Known, Unknown}
 use Rattle.run.specs.declared.Ran.{Ran}
 
 -- what a run hands back, and its result buffer afterwards
@@ -48,9 +48,9 @@ unfoldable pub beforeAny : Chain → List ℕ → List ℕ → Verdict
 beforeAny s bytes results = firstOf (notSound s ∷ brokenEvent bytes ∷ shortResults bytes results ∷ [])
 
 -- a listed event: 12, kind outside 1 to 8, before the event's own refusals
-abbrev pub stepOf : Listed → Chain → Outcome
-stepOf (Known e) s = eventOf e s
-stepOf Unknown s = record { answer = Answer.Refused UnknownKind; chain = s }
+abbrev pub listedOutcome : Listed → Chain → Outcome
+listedOutcome (Known e) s = eventOf e s
+listedOutcome Unknown s = record { answer = Answer.Refused UnknownKind; chain = s }
 
 -- the n-th accepted event's two bytes: 1 and the byte driven or read, or 0 and 0
 abbrev pub noted : ℕ → Handed → List ℕ → List ℕ
@@ -64,7 +64,7 @@ stopped verdict n s results = record { ran = record { verdict = verdict; accepte
 unfoldable pub runFrom : ℕ → List ℕ → ℕ → Chain → List ℕ → Report
 runFrom zero bytes n s results = stopped Accepted n s results
 runFrom (suc left) bytes n s results =
-    let o : Outcome = stepOf (listedAt bytes n) s in
+    let o : Outcome = listedOutcome (listedAt bytes n) s in
     cond (isAccepted (verdictIn (o .answer)))
     (runFrom left bytes (n + 1) (o .chain) (noted n (handed (o .answer)) results))
     (stopped (verdictIn (o .answer)) n s results)
@@ -73,7 +73,7 @@ runFrom (suc left) bytes n s results =
 unfoldable pub acceptedFrom : ℕ → List ℕ → ℕ → Chain → ℕ
 acceptedFrom zero bytes n s = 0
 acceptedFrom (suc left) bytes n s =
-    let o : Outcome = stepOf (listedAt bytes n) s in
+    let o : Outcome = listedOutcome (listedAt bytes n) s in
     cond (isAccepted (verdictIn (o .answer))) (acceptedFrom left bytes (n + 1) (o .chain) + 1) 0
 
 -- the run: 1, 10 and 11 before any event

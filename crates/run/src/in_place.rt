@@ -7,8 +7,9 @@ ghost use Rattle.refusal.specs.Answers.{handed};
 ghost use Rattle.chain.specs.Sound.{sound};
 ghost use Rattle.image.specs.Reading.{chainIn, isImage};
 ghost use Rattle.refusal.specs.Numbers.{isAccepted};
-ghost use Rattle.run.specs.Run.{stepOf, noted, beforeAny, runFrom, runOf};
-use crate::Listed;
+ghost use Rattle.run.specs.Run.{listedOutcome, noted, beforeAny, runFrom, runOf};
+use crate::list::listed_at;
+use event::Listed;
 use image::events::on;
 use refusal::Answer;
 use refusal::Refusal;
@@ -31,9 +32,9 @@ fn least(a: usize, b: usize) -> usize
 fn step_in(image: &mut [u8], listed: Listed) -> Answer
     requires { ⌜ isImage (now image) ≡ true ⌝ }
     requires { ⌜ sound (chainIn (now image)) ≡ true ⌝ }
-    ensures { λ r. ⌜ r ≡ stepOf listed (chainIn (now (image .entry))) .answer ⌝ }
+    ensures { λ r. ⌜ r ≡ listedOutcome listed (chainIn (now (image .entry))) .answer ⌝ }
     ensures { λ _. ⌜ isImage (now (image .exit)) ≡ true ⌝ }
-    ensures { λ _. ⌜ chainIn (now (image .exit)) ≡ stepOf listed (chainIn (now (image .entry))) .chain ⌝ }
+    ensures { λ _. ⌜ chainIn (now (image .exit)) ≡ listedOutcome listed (chainIn (now (image .entry))) .chain ⌝ }
 {
     match listed {
         Listed::Known(e) => on(image, e),
@@ -65,7 +66,7 @@ fn perform_in(image: &mut [u8], bytes: &[u8], count: usize, results: &mut [u8]) 
 {
     let mut n = 0;
     while n < count {
-        let answer = step_in(image, Listed::at(bytes, n));
+        let answer = step_in(image, listed_at(bytes, n));
         let verdict = answer.verdict();
         if !verdict.is_accepted() {
             return Reached {

@@ -11,18 +11,11 @@ ghost use Rattle.chain.specs.Refusals.{notSound};
 ghost use Rattle.run.specs.Run.{brokenLength, shortRoom, runOf};
 use crate::in_place::run_in;
 use chain::Chain;
-use chain::Event;
 use image::LENGTH;
 use image::reading::chain_in;
 use image::writing::put_chain;
 use refusal::Refusal;
 use refusal::Verdict;
-
-// What four bytes of a list are: one of the eight events, or a kind outside 1 to 8.
-pub enum Listed {
-    Known(Event),
-    Unknown,
-}
 
 // What a run reports, and the chain handed back. `accepted` counts the events accepted.
 pub struct Ran {

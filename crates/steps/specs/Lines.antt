@@ -4,7 +4,7 @@ use mathlib.Core.List.{List}
 use Prim.Native.Nat.{ℕ, _-_}
 use lib.Dec.{eqb, ltb}
 use lib.ListN.{length, getD, take}
-use Rattle.chain.specs.declared.Event.the-variants.{Command as CommandOf, Data as DataOf, Status as StatusOf, Read as ReadOf, Line as LineOf, Enable as EnableOf, Fall as FallOf, Rise as RiseOf}
+use Rattle.event.specs.declared.Event.the-variants.{Command as CommandOf, Data as DataOf, Status as StatusOf, Read as ReadOf, Line as LineOf, Enable as EnableOf, Fall as FallOf, Rise as RiseOf}
 use Rattle.text.specs.Words.{word, behind, decimalIn, hexIn, wordStart, wordEnd}
 use Rattle.text.specs.declared.Number.{Number}
 use Rattle.text.specs.declared.Number.the-variants.{Value, Wrong}

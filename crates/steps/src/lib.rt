@@ -3,7 +3,7 @@
 pub mod kinds;
 pub mod line;
 
-use chain::Event;
+use event::Event;
 
 // The steps of a list: the start, and the eight events.
 pub enum Kind {

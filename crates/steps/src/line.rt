@@ -11,7 +11,7 @@ use crate::Named;
 use crate::Step;
 use crate::kinds::form_of;
 use crate::kinds::kind_of;
-use chain::Event;
+use event::Event;
 use text::Number;
 use text::numbers::decimal_in;
 use text::numbers::hex_in;

@@ -6,7 +6,7 @@ use Rattle.refusal.specs.declared.Verdict.the-variants.{Accepted}
 use Rattle.chain.specs.Events.{judged, changed}
 use Rattle.chain.specs.Refusals.{verdictOf}
 use Rattle.chain.specs.declared.Chain.{Chain}
-use Rattle.chain.specs.declared.Event.{Event}
+use Rattle.event.specs.declared.Event.{Event}
 use Rattle.chain.proofs.Passed.{in-eight, passed-sound, passed-names, passed-fall}
 use Rattle.chain.proofs.Chain.happens.Statement.{statement}
 use Rattle.chain.proofs.Chain.happens.Tie as tie

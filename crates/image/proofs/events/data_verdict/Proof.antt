@@ -10,7 +10,7 @@ use borrow.Author.Tests.{ltb-true, not-true, not-false}
 use borrow.Author.Needs.{needs}
 use Rattle.refusal.specs.Numbers.{firstOf}
 use Rattle.chain.specs.Refusals.{noSuchChip, pulseUnderWay, noDestination, pastItsCount, verdictOf}
-use Rattle.chain.specs.declared.Event.the-variants.{Data}
+use Rattle.event.specs.declared.Event.the-variants.{Data}
 use Rattle.chain.proofs.Passed.{sound-verdict, in-eight, bus-names, refused-at-first, left-to-the-rest}
 use Rattle.chain.proofs.Soundness.{chip-sound}
 use Rattle.image.specs.Reading.{chainIn}

@@ -8,7 +8,7 @@ use Rattle.chain.specs.Events.{answerOf, changed}
 use Rattle.chain.specs.Refusals.{verdictOf}
 use Rattle.refusal.specs.declared.Answer.the-variants.{Byte}
 use Rattle.chain.specs.declared.Chain.{Chain}
-use Rattle.chain.specs.declared.Event.{Event}
+use Rattle.event.specs.declared.Event.{Event}
 use Rattle.image.specs.Reading.{chainIn}
 use Rattle.image.proofs.events.happens.Statement.{statement}
 use Rattle.image.proofs.events.happens.Tie as tie

@@ -19,7 +19,7 @@ use Rattle.image.proofs.OneToOne.{image-length}
 use Rattle.image.specs.Reading.{chainIn, isImage}
 use Rattle.run.proofs.Steps.{stops, goes-on, noted-length, step-sound, step-same}
 use Rattle.run.specs.List.{listedAt}
-use Rattle.run.specs.Run.{noted, runFrom, stopped, stepOf}
+use Rattle.run.specs.Run.{noted, runFrom, stopped, listedOutcome}
 use Rattle.run.proofs.in_place.perform_in.Statement.{statement}
 use Rattle.run.proofs.in_place.perform_in.Tie as tie
 
@@ -33,8 +33,8 @@ abbrev μ-loop : tie.MeasureT-loop
 loop-holds : tie.Need-loop-holds Inv-loop μ-loop
 loop-holds c = (omega arith, c .before .before .before .pre .0, c .before .before .before .pre .1 .0, refl, ap (λ left. runFrom left (c .before .before .before .args .bytes .now) 0 (chainIn (c .before .before .before .args .image .now)) (c .before .before .before .args .results .now)) (sym (sub-zero _)))
 
-at-requires : tie.Need-at-requires Inv-loop μ-loop
-at-requires c κs = omega (arith, c .before .before .before .before .before .before .pre .1 .1 .0)
+listed-at-requires : tie.Need-listed-at-requires Inv-loop μ-loop
+listed-at-requires c κs = omega (arith, c .before .before .before .before .before .before .pre .1 .1 .0)
 
 step-in-requires : tie.Need-step-in-requires Inv-loop μ-loop
 step-in-requires c κs = (c .before .before .before .loop .inv .1, c .before .before .before .loop .inv .2)
@@ -56,9 +56,9 @@ returns c =
     let bytes : List ℕ = c .before .before .before .before .before .before .before .before .before .before .before .before .before .args .bytes .now in
     let n : ℕ = c .before .before .before .before .before .before .before .before .before .loop .n in
     let s : Chain = chainIn (c .before .before .before .before .before .before .before .before .before .loop .image) in
-    let o : Outcome = stepOf (listedAt bytes n) s in
-    let answered : c .before .before .before .before .before .step-in .result ≡ o .answer = c .before .before .before .before .before .step-in .ensures .0 ∙ ap (λ l. stepOf l s .answer) (c .before .before .before .before .before .before .at .ensures) in
-    let left : chainIn (c .before .before .before .before .before .step-in .last .0) ≡ o .chain = c .before .before .before .before .before .step-in .ensures .1 .1 ∙ ap (λ l. stepOf l s .chain) (c .before .before .before .before .before .before .at .ensures) in
+    let o : Outcome = listedOutcome (listedAt bytes n) s in
+    let answered : c .before .before .before .before .before .step-in .result ≡ o .answer = c .before .before .before .before .before .step-in .ensures .0 ∙ ap (λ l. listedOutcome l s .answer) (c .before .before .before .before .before .before .listed-at .ensures) in
+    let left : chainIn (c .before .before .before .before .before .step-in .last .0) ≡ o .chain = c .before .before .before .before .before .step-in .ensures .1 .1 ∙ ap (λ l. listedOutcome l s .chain) (c .before .before .before .before .before .before .listed-at .ensures) in
     let told : isAccepted (verdictIn (o .answer)) ≡ c .before .is-accepted .result = ap (λ a. isAccepted (verdictIn a)) (sym answered) ∙ ap isAccepted (sym (c .before .before .verdict .ensures)) ∙ sym (c .before .is-accepted .ensures) in
     let off : isAccepted (verdictIn (o .answer)) ≡ false = told ∙ not-true (c .before .is-accepted .result) (c .if1 .taken) in
     let ended : runFrom (c .before .before .before .before .before .before .before .before .before .before .before .before .before .args .count) bytes 0 (chainIn (c .before .before .before .before .before .before .before .before .before .before .before .before .before .args .image .now)) (c .before .before .before .before .before .before .before .before .before .before .before .before .before .args .results .now) ≡ stopped (verdictIn (o .answer)) n s (c .before .before .before .before .before .before .before .before .before .loop .results) =
@@ -87,9 +87,9 @@ loop-again c =
     let bytes : List ℕ = c .before .before .before .before .before .before .before .before .before .before .before .before .before .before .before .before .before .args .bytes .now in
     let n : ℕ = c .before .before .before .before .before .before .before .before .before .before .before .before .before .loop .n in
     let s : Chain = chainIn (c .before .before .before .before .before .before .before .before .before .before .before .before .before .loop .image) in
-    let o : Outcome = stepOf (listedAt bytes n) s in
-    let answered : c .before .before .before .before .before .before .before .before .before .step-in .result ≡ o .answer = c .before .before .before .before .before .before .before .before .before .step-in .ensures .0 ∙ ap (λ l. stepOf l s .answer) (c .before .before .before .before .before .before .before .before .before .before .at .ensures) in
-    let left : chainIn (c .before .before .before .before .before .before .before .before .before .step-in .last .0) ≡ o .chain = c .before .before .before .before .before .before .before .before .before .step-in .ensures .1 .1 ∙ ap (λ l. stepOf l s .chain) (c .before .before .before .before .before .before .before .before .before .before .at .ensures) in
+    let o : Outcome = listedOutcome (listedAt bytes n) s in
+    let answered : c .before .before .before .before .before .before .before .before .before .step-in .result ≡ o .answer = c .before .before .before .before .before .before .before .before .before .step-in .ensures .0 ∙ ap (λ l. listedOutcome l s .answer) (c .before .before .before .before .before .before .before .before .before .before .listed-at .ensures) in
+    let left : chainIn (c .before .before .before .before .before .before .before .before .before .step-in .last .0) ≡ o .chain = c .before .before .before .before .before .before .before .before .before .step-in .ensures .1 .1 ∙ ap (λ l. listedOutcome l s .chain) (c .before .before .before .before .before .before .before .before .before .before .listed-at .ensures) in
     let told : isAccepted (verdictIn (o .answer)) ≡ c .before .before .before .before .before .is-accepted .result = ap (λ a. isAccepted (verdictIn a)) (sym answered) ∙ ap isAccepted (sym (c .before .before .before .before .before .before .verdict .ensures)) ∙ sym (c .before .before .before .before .before .is-accepted .ensures) in
     let on : isAccepted (verdictIn (o .answer)) ≡ true = told ∙ not-false (c .before .before .before .before .before .is-accepted .result) (c .before .before .before .before .if1 .left) in
     let noted-here : noted n (handed (o .answer)) (c .before .before .before .before .before .before .before .before .before .before .before .before .before .loop .results) ≡ c .before .before .note .last .0 = ap (λ a. noted n (handed a) (c .before .before .before .before .before .before .before .before .before .before .before .before .before .loop .results)) (sym answered) ∙ sym (c .before .before .note .ensures) in (
@@ -128,7 +128,7 @@ perform-in-spec =
     Inv-loop
     μ-loop
     loop-holds
-    at-requires
+    listed-at-requires
     step-in-requires
     verdict-requires
     is-accepted-requires

@@ -3,7 +3,7 @@
 use mathlib.Core.Path.{sym, ap, _∙_}
 use borrow.Author.Needs.{needs}
 use Rattle.image.specs.Reading.{chainIn}
-use Rattle.run.specs.Run.{stepOf}
+use Rattle.run.specs.Run.{listedOutcome}
 use Rattle.run.proofs.in_place.step_in.Statement.{statement}
 use Rattle.run.proofs.in_place.step_in.Tie as tie
 
@@ -20,10 +20,10 @@ same-length : tie.Need-same-length
 same-length c = search needs
 
 returns : tie.Need-returns
-returns c = (c .before .before .on .ensures .0 ∙ ap (λ l. stepOf l (chainIn (c .before .before .before .before .before .before .before .before .args .image .now)) .answer) (sym (c .before .before .before .before .before .listed .given .1)), (c .before .before .on .ensures .1 .0, c .before .before .on .ensures .1 .1 ∙ ap (λ l. stepOf l (chainIn (c .before .before .before .before .before .before .before .before .args .image .now)) .chain) (sym (c .before .before .before .before .before .listed .given .1))))
+returns c = (c .before .before .on .ensures .0 ∙ ap (λ l. listedOutcome l (chainIn (c .before .before .before .before .before .before .before .before .args .image .now)) .answer) (sym (c .before .before .before .before .before .listed .given .1)), (c .before .before .on .ensures .1 .0, c .before .before .on .ensures .1 .1 ∙ ap (λ l. listedOutcome l (chainIn (c .before .before .before .before .before .before .before .before .args .image .now)) .chain) (sym (c .before .before .before .before .before .listed .given .1))))
 
 returns-2 : tie.Need-returns-2
-returns-2 c = (ap (λ l. stepOf l (chainIn (c .before .before .before .args .image .now)) .answer) (sym (c .enum-told .given .1)), (c .before .before .before .pre .0, ap (λ l. stepOf l (chainIn (c .before .before .before .args .image .now)) .chain) (sym (c .enum-told .given .1))))
+returns-2 c = (ap (λ l. listedOutcome l (chainIn (c .before .before .before .args .image .now)) .answer) (sym (c .enum-told .given .1)), (c .before .before .before .pre .0, ap (λ l. listedOutcome l (chainIn (c .before .before .before .args .image .now)) .chain) (sym (c .enum-told .given .1))))
 
 pub step-in-spec : {M : Type 1} → statement M
 step-in-spec =

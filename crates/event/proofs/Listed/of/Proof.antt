@@ -1,8 +1,8 @@
--- `run::Listed::of` meets its contract.
+-- `event::Listed::of` meets its contract.
 -- Assumes nothing.
 use borrow.Author.Tests.{ne-eqb}
-use Rattle.run.proofs.Listed.of.Statement.{statement}
-use Rattle.run.proofs.Listed.of.Tie as tie
+use Rattle.event.proofs.Listed.of.Statement.{statement}
+use Rattle.event.proofs.Listed.of.Tie as tie
 
 returns : tie.Need-returns
 returns c = simp (c .match .keys1)

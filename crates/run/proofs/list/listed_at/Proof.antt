@@ -1,9 +1,9 @@
--- `run::Listed::at` meets its contract.
+-- `run::list::listed_at` meets its contract.
 -- Assumes nothing.
 use borrow.Author.Needs.{needs}
 use Rattle.run.specs.List.{listedAt}
-use Rattle.run.proofs.Listed.at.Statement.{statement}
-use Rattle.run.proofs.Listed.at.Tie as tie
+use Rattle.run.proofs.list.listed_at.Statement.{statement}
+use Rattle.run.proofs.list.listed_at.Tie as tie
 
 mul-first : tie.Need-mul-first
 mul-first c = search needs
@@ -36,8 +36,8 @@ returns : tie.Need-returns
 unfolding listedAt
 returns c = c .of .ensures
 
-pub at-spec : {M : Type 1} → statement M
-at-spec =
+pub listed-at-spec : {M : Type 1} → statement M
+listed-at-spec =
     tie.close
     (tie.spec
     mul-first

@@ -1,0 +1,44 @@
+// The eight events, and the four numbers that stand for each in a list: kind 1 to 8, chip, channel, value; unused ones are ignored.
+// The one crate that lists all of them beside what each does (`decide`) and what each is called (`steps`).
+ghost use mathlib.Core.Path.{_≡_};
+ghost use Rattle.event.specs.Numbers.{listed};
+
+// The eight events, in the order of their kinds 1 to 8.
+pub enum Event {
+    // Chip and code.
+    Command(u8, u8),
+    // Chip and byte.
+    Data(u8, u8),
+    Status(u8),
+    Read(u8),
+    // Chip, channel and level.
+    Line(u8, u8, u8),
+    Enable(u8),
+    Fall,
+    Rise,
+}
+
+// What four numbers of a list are: one of the eight events, or a kind outside 1 to 8.
+pub enum Listed {
+    Known(Event),
+    Unknown,
+}
+
+impl Listed {
+    // What four numbers are.
+    pub fn of(kind: u8, chip: u8, channel: u8, value: u8) -> Listed
+        ensures { λ r. ⌜ r ≡ listed kind chip channel value ⌝ }
+    {
+        match kind {
+            1 => Listed::Known(Event::Command(chip, value)),
+            2 => Listed::Known(Event::Data(chip, value)),
+            3 => Listed::Known(Event::Status(chip)),
+            4 => Listed::Known(Event::Read(chip)),
+            5 => Listed::Known(Event::Line(chip, channel, value)),
+            6 => Listed::Known(Event::Enable(value)),
+            7 => Listed::Known(Event::Fall),
+            8 => Listed::Known(Event::Rise),
+            _ => Listed::Unknown,
+        }
+    }
+}
