@@ -5,7 +5,8 @@ use mathlib.Core.Logic.{⊎-elim}
 use mathlib.Core.Bool.{Bool, true, false, cond, _&&_, Bool·beq, false≢true}
 use Prim.Native.Nat.{ℕ, zero, suc, _+_, _≤_, _<_, zero-le, suc-le-suc}
 use native.Mathlib.Nat.{le-of-suc-le-suc, not-suc-le-zero, eq-or-lt-of-le, zero-lt-suc, le-refl, le-step}
-use lib.Dec.{T, lit<}
+use lib.Dec.{T, lit<, ltb, leb·suc-suc}
+use borrow.Author.Tests.{lt-ltb}
 use Rattle.bits.specs.Below.{digit, howMany, every, first}
 
 -- a digit is 0 or 1
@@ -121,3 +122,24 @@ first-before (suc n) f (suc k) h is = by (f 0) (first-before n (λ i. f (suc i))
     by : (here : Bool) → first n (λ i. f (suc i)) ≤ k → cond here 0 (suc (first n (λ i. f (suc i)))) ≤ suc k
     by true l = zero-le
     by false l = suc-le-suc l
+
+-- one number more: the first below n if there is one, else n itself if it passes
+pub first-more : (n : ℕ) (f : ℕ → Bool) → first (suc n) f ≡ cond (ltb (first n f) n) (first n f) (cond (f n) n (suc n))
+first-more zero f = refl
+first-more (suc n) f = by (f 0) (first-more n (λ i. f (suc i)))
+  where
+    rest : ℕ
+    rest = first n (λ i. f (suc i))
+
+    pushed : (found next : Bool) → suc (cond found rest (cond next n (suc n))) ≡ cond found (suc rest) (cond next (suc n) (suc (suc n)))
+    pushed true next = refl
+    pushed false true = refl
+    pushed false false = refl
+
+    by : (here : Bool) → first (suc n) (λ i. f (suc i)) ≡ cond (ltb rest n) rest (cond (f (suc n)) n (suc n))
+        → cond here 0 (suc (first (suc n) (λ i. f (suc i)))) ≡ cond (ltb (cond here 0 (suc rest)) (suc n)) (cond here 0 (suc rest)) (cond (f (suc n)) (suc n) (suc (suc n)))
+    by true later = ap (λ (found : Bool). cond found 0 (cond (f (suc n)) (suc n) (suc (suc n)))) (sym (lt-ltb 0 (suc n) (zero-lt-suc n)))
+    by false later =
+        ap suc later
+        ∙ pushed (ltb rest n) (f (suc n))
+        ∙ ap (λ (found : Bool). cond found (suc rest) (cond (f (suc n)) (suc n) (suc (suc n)))) (sym (leb·suc-suc (suc rest) n))

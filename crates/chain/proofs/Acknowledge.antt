@@ -9,14 +9,18 @@ use Rattle.bits.proofs.Below.{both-right, both-not, first-is, first-passes}
 use Rattle.refusal.proofs.Numbers.{not-both}
 use Rattle.search.specs.Candidate.{channelOf}
 use Rattle.chip.specs.Status.{isArmed, gintActive, candidateOf}
+use Rattle.response.specs.Held.{replyOf, isIdle, isResponding}
+use Rattle.response.specs.declared.Reply.{Reply}
+use Rattle.response.specs.declared.Response.{Response}
+use Rattle.response.specs.declared.Response.the-variants.{Idle, UnderWay}
+use Rattle.decide.proofs.Soundness.{selected-is}
+use Rattle.decide.specs.Pulse.{selectedBy}
+use Rattle.decide.specs.declared.Look.the-variants.{Answering}
 use Rattle.chain.specs.Fields.{chipAt}
-use Rattle.chain.specs.Pins.{ei, isIdle, isResponding}
-use Rattle.chain.specs.Pulse.{answeringChip, replyOf, selected}
+use Rattle.chain.specs.Pins.{ei}
+use Rattle.chain.specs.Seen.{seenAt, seenIn, selected}
+use Rattle.chain.specs.Walk.{answeringChip}
 use Rattle.chain.specs.declared.Chain.{Chain}
-use Rattle.chain.specs.declared.Reply.{Reply}
-use Rattle.chain.specs.declared.Response.{Response}
-use Rattle.chain.specs.declared.Response.the-variants.{Idle, UnderWay}
-use Rattle.chain.proofs.Soundness.{selected-is}
 
 -- the selected response is that of its chip's candidate, and the chip's GINT is active
 pub record Answers (s : Chain) (r : Reply) : Type 0 where
@@ -28,8 +32,9 @@ unfolding answeringChip
 active-there s h = both-right (ei s (answeringChip s)) _ (first-passes (s .count) (λ i. ei s i && gintActive (chipAt s i)) h)
 
 pub selected-answers : (s : Chain) (r : Reply) → selected s ≡ UnderWay r → Answers s r
+unfolding selected seenAt
 selected-answers s r is =
-    let found = selected-is s r is in
+    let found = selected-is (seenIn Answering s) r is in
     subst (Answers s) (sym (found .1)) (record { active = active-there s (found .0); channel = refl })
 
 -- with no response under way, EI stays high up to a chip before which all are armed
@@ -52,6 +57,6 @@ reached-answers s i h high active none =
 
 pub reached-selected : (s : Chain) (i : ℕ) → i < s .count → ei s i ≡ true → gintActive (chipAt s i) ≡ true → ((j : ℕ) → j < i → gintActive (chipAt s j) ≡ false)
     → selected s ≡ UnderWay (replyOf i (chipAt s i))
-unfolding selected
+unfolding selected selectedBy seenAt
 reached-selected s i h high active none =
     rw (reached-answers s i h high active none) (simp (lt-ltb i (s .count) h))

@@ -1,4 +1,6 @@
 pub mod Acknowledge
+pub mod Along
+pub mod Judged
 pub mod Kept
 pub mod Number
 pub mod Passed

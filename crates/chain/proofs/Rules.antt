@@ -2,14 +2,16 @@
 -- chain's fields alone.
 -- Assumes nothing.
 use Rattle.chip.proofs.Rules.{chipRules}
-use Rattle.chain.specs.Events.{changed, counted, accepted, refused, judged, eventOf}
+use Rattle.decide.proofs.Rules.{decisions}
+use Rattle.chain.specs.Apply.{replacedIn, applied, decision, changed, counted}
+use Rattle.chain.specs.Events.{accepted, refused, judged, eventOf}
 use Rattle.chain.specs.Fields.{withChips, withChip, withEnable, withIack, withResponse, withEvent, zeroChain}
 use Rattle.chain.specs.Pins.{ei}
-use Rattle.chain.specs.Pulse.{answeringChip, selected, firstPulse, fallen, fallAnswer, risen, risenAfter}
 use Rattle.chain.specs.Refusals.{verdictOf}
+use Rattle.chain.specs.Seen.{seenAt, selected}
 use Rattle.chain.specs.Sound.{chipsSound, sound}
 use Rattle.chain.specs.Start.{started, startOf}
-use Rattle.chain.specs.Views.{tableOr, pictureOr, registerView, pinView}
+use Rattle.chain.specs.Walk.{answeringChip}
 
 -- a chain with one field replaced, as a record
 unfoldable pub chainFields : Unit {0}
@@ -17,5 +19,5 @@ unfolding withChips withChip withEnable withIack withResponse withEvent zeroChai
 chainFields = tt
 
 unfoldable pub rules : Unit {0}
-unfolding chipRules chainFields changed counted accepted refused judged eventOf ei answeringChip selected firstPulse fallen fallAnswer risen risenAfter verdictOf chipsSound sound started startOf tableOr pictureOr registerView pinView
+unfolding chipRules decisions chainFields replacedIn applied decision changed counted accepted refused judged eventOf ei answeringChip seenAt selected verdictOf chipsSound sound started startOf
 rules = tt

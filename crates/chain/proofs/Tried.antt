@@ -6,7 +6,6 @@ use Prim.Native.Nat.{ℕ}
 use Rattle.chip.specs.Fields.{withPointer}
 use Rattle.chip.specs.Reset.{powerUp}
 use Rattle.refusal.specs.Answers.{handed}
-use Rattle.chain.specs.Views.{tabled, pictured, registerView, pinView}
 use Rattle.chain.specs.Events.{eventOf}
 use Rattle.chain.specs.Fields.{withChip, withIack, withResponse, zeroChain}
 use Rattle.chain.specs.Sound.{sound}
@@ -14,7 +13,7 @@ use Rattle.chain.specs.Start.{started, startOf}
 use Rattle.chain.specs.declared.Chain.{Chain}
 use Rattle.event.specs.declared.Event.{Event}
 use Rattle.event.specs.declared.Event.the-variants.{Command, Data, Line, Fall}
-use Rattle.chain.specs.declared.Response.the-variants.{UnderWay}
+use Rattle.response.specs.declared.Response.the-variants.{UnderWay}
 use Rattle.chain.proofs.Rules.{rules}
 
 -- starts: 0 and 9 chips are refused by 1, with the chain of count 0; 1 and 8 are sound
@@ -28,10 +27,9 @@ sound-starts = (refl, refl)
 
 -- every later call on a refused start gives 1
 after-a-refused-start :
-    (handed (eventOf Fall zeroChain .answer) .number ≡ 1)
-    × (tabled (registerView 0 zeroChain) .number ≡ 1)
+    handed (eventOf Fall zeroChain .answer) .number ≡ 1
 unfolding rules
-after-a-refused-start = (refl, refl)
+after-a-refused-start = refl
 
 -- a pointer above 7 in the count is not sound; past the count it is no matter
 pointers :
@@ -70,10 +68,3 @@ others :
     × (numberOf (Data 1 0x00) (started 2 0) ≡ 8)
 unfolding rules
 others = (refl, refl)
-
--- a view is given during a pulse, and refused by 2 for an absent chip
-views :
-    (tabled (registerView 1 (withIack false (started 2 0))) .number ≡ 0)
-    × (pictured (pinView 2 (started 2 0)) .number ≡ 2)
-unfolding rules
-views = (refl, refl)

@@ -1,14 +1,13 @@
 -- A chain with one field replaced, and one of its chips. antt has no record update, so the whole record is spelt out here, and besides in Start alone.
 use mathlib.Core.Bool.{Bool, false}
 use mathlib.Core.List.{List}
-use Prim.Native.Nat.{ℕ, _+_}
+use Prim.Native.Nat.{ℕ}
 use lib.ListN.{getD, set, replicate}
-use Rattle.chip.specs.Fields.{zeroChip, noChip}
+use Rattle.chip.specs.Fields.{zeroChip}
 use Rattle.chip.specs.declared.Chip.{Chip}
 use Rattle.chain.specs.declared.Chain.{Chain}
-use Rattle.chain.specs.declared.Reply.{Reply}
-use Rattle.chain.specs.declared.Response.{Response}
-use Rattle.chain.specs.declared.Response.the-variants.{Idle}
+use Rattle.response.specs.declared.Response.{Response}
+use Rattle.response.specs.declared.Response.the-variants.{Idle}
 
 unfoldable pub withChips : List Chip → Chain → Chain
 withChips new s =
@@ -34,14 +33,10 @@ withEvent new s =
 unfoldable pub zeroChain : Chain
 zeroChain = record { count = 0; chips = replicate 8 zeroChip; enable = false; iack = false; response = Idle; event = 0 }
 
--- chip i of the chain
+-- chip i of the chain; past the eight records, a chip that is all zero
 abbrev pub chipAt : Chain → ℕ → Chip
-chipAt s i = getD (s .chips) i noChip
+chipAt s i = getD (s .chips) i zeroChip
 
 -- the chain with chip i replaced
 unfoldable pub withChip : ℕ → Chip → Chain → Chain
 withChip i c s = withChips (set (s .chips) i c) s
-
--- a response with one byte more delivered
-abbrev pub oneMore : Reply → Reply
-oneMore r = record { chip = r .chip; channel = r .channel; level = r .level; length = r .length; delivered = r .delivered + 1 }

@@ -1,8 +1,9 @@
+pub mod Apply
 pub mod Events
 pub mod Fields
 pub mod Pins
-pub mod Pulse
 pub mod Refusals
+pub mod Seen
 pub mod Sound
 pub mod Start
-pub mod Views
+pub mod Walk

@@ -1,28 +1,13 @@
 -- The pins of a chain (document 01, "Bits"). A level is true where it is high.
-use mathlib.Core.Bool.{Bool, true, false, not, _&&_, _||_}
+use mathlib.Core.Bool.{Bool, not, _||_}
 use Prim.Native.Nat.{ℕ, zero, suc}
-use lib.Dec.{eqb}
-use Rattle.chip.specs.Status.{isArmed, gintActive, gintPin}
-use Rattle.chip.specs.declared.Chip.{Chip}
+use Rattle.chip.specs.Status.{gintActive, gintPin}
+use Rattle.response.specs.Held.{isIdle}
+use Rattle.response.specs.Walk.{eoOf}
 use Rattle.chain.specs.Fields.{chipAt}
 use Rattle.chain.specs.declared.Chain.{Chain}
-use Rattle.chain.specs.declared.Response.{Response}
-use Rattle.chain.specs.declared.Response.the-variants.{Idle, UnderWay}
 
--- no response is under way
-abbrev pub isIdle : Response → Bool
-isIdle Idle = true
-isIdle (UnderWay r) = false
-
--- chip i is responding
-abbrev pub isResponding : Response → ℕ → Bool
-isResponding Idle i = false
-isResponding (UnderWay r) i = eqb (r .chip) i
-
--- EO of chip i at a level of its EI: low if EI is low, if M7 is clear, even when polled (D), or if the chip is responding; else high
-abbrev pub eoOf : Bool → Chip → Response → ℕ → Bool
-eoOf ei c response i = ei && isArmed c && not (isResponding response i)
-
+-- EO of chip i at a level of its EI
 abbrev pub eoAt : Bool → Chain → ℕ → Bool
 eoAt ei s i = eoOf ei (chipAt s i) (s .response) i
 

@@ -9,7 +9,7 @@ use Rattle.chain.specs.Sound.{countSound}
 use Rattle.refusal.specs.declared.Answer.the-variants.{Done, Refused}
 use Rattle.chain.specs.declared.Chain.{Chain}
 use Rattle.chain.specs.declared.Outcome.{Outcome}
-use Rattle.chain.specs.declared.Response.the-variants.{Idle}
+use Rattle.response.specs.declared.Response.the-variants.{Idle}
 
 -- all eight records are the power-up chip; EI and IACK high, event number 0, no response
 unfoldable pub started : ℕ → ℕ → Chain

@@ -5,8 +5,10 @@ ghost use Rattle.chain.specs.Events.{eventOf};
 ghost use Rattle.chain.specs.Sound.{sound};
 ghost use Rattle.event.specs.declared.Event.the-variants.{Command, Data, Status, Read, Line, Enable, Fall, Rise};
 use crate::Chain;
-use event::Event;
 use crate::Outcome;
+use decide::Look;
+use decide::tests::verdict;
+use event::Event;
 use refusal::Refusal;
 use refusal::Verdict;
 
@@ -82,9 +84,11 @@ impl Chain {
         requires { ⌜ sound self ≡ true ⌝ }
         ensures { λ r. ⌜ r ≡ eventOf e self ⌝ }
     {
-        let verdict = self.verdict(e);
-        match verdict {
-            Verdict::Accepted => self.happens(e),
+        let response = self.response;
+        let seen = self.seen(Look::of(e, response));
+        let judged = verdict(e, seen);
+        match judged {
+            Verdict::Accepted => self.accepted(seen.change(e)),
             Verdict::Refused(why) => self.refused(why),
         }
     }

@@ -1,26 +1,15 @@
 // A chain with one of its parts replaced.
 ghost use mathlib.Core.Path.{_≡_};
-ghost use Prim.Native.Nat.{_<_};
-ghost use Rattle.chain.specs.Events.{counted, accepted, refused};
-ghost use Rattle.chain.specs.Fields.{chipAt, withChip, withResponse, zeroChain, oneMore};
+ghost use Rattle.chain.specs.Apply.{counted};
+ghost use Rattle.chain.specs.Events.{accepted, refused};
+ghost use Rattle.chain.specs.Fields.{chipAt, withChip, withResponse, zeroChain};
 use crate::Chain;
 use crate::Outcome;
-use crate::Reply;
-use crate::Response;
 use chip::Chip;
+use decide::Change;
 use refusal::Answer;
 use refusal::Refusal;
-
-impl Reply {
-    // The response with one byte more delivered.
-    pub fn one_more(mut self) -> Reply
-        requires { ⌜ self .delivered < 255 ⌝ }
-        ensures { λ r. ⌜ r ≡ oneMore self ⌝ }
-    {
-        self.delivered = self.delivered + 1;
-        self
-    }
-}
+use response::Response;
 
 impl Chain {
     // The chain of a refused start: count 0, all zero, without destination or response.
@@ -38,21 +27,25 @@ impl Chain {
         }
     }
 
-    // Chip i.
-    pub(crate) fn chip_at(self, i: u8) -> Chip
-        requires { ⌜ i < 8 ⌝ }
+    // Chip i; past the eight records, a chip that is all zero.
+    pub fn chip_at(self, i: u8) -> Chip
         ensures { λ r. ⌜ r ≡ chipAt self i ⌝ }
     {
         let n = i as usize;
+        if n >= 8 {
+            return Chip::zero();
+        }
         self.chips[n]
     }
 
-    // The chain with chip i replaced.
+    // The chain with chip i replaced; past the eight records nothing is.
     pub(crate) fn with_chip(mut self, i: u8, chip: Chip) -> Chain
-        requires { ⌜ i < 8 ⌝ }
         ensures { λ r. ⌜ r ≡ withChip i chip self ⌝ }
     {
         let n = i as usize;
+        if n >= 8 {
+            return self;
+        }
         self.chips[n] = chip;
         self
     }
@@ -80,11 +73,12 @@ impl Chain {
         self
     }
 
-    // What an accepted event hands back.
-    pub(crate) fn accepted(self, answer: Answer) -> Outcome
-        ensures { λ r. ⌜ r ≡ accepted answer self ⌝ }
+    // What an accepted event hands back: its answer, and the chain with what it does applied and counted.
+    pub(crate) fn accepted(self, change: Change) -> Outcome
+        ensures { λ r. ⌜ r ≡ accepted change self ⌝ }
     {
-        let chain = self.counted();
+        let answer = change.answer;
+        let chain = self.applied(change).counted();
         Outcome {
             answer: answer,
             chain: chain,

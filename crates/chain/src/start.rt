@@ -3,11 +3,11 @@ ghost use mathlib.Core.Path.{_≡_};
 ghost use Rattle.chain.specs.Start.{started, startOf};
 use crate::Chain;
 use crate::Outcome;
-use crate::Response;
 use crate::sound::is_count;
 use chip::Chip;
 use refusal::Answer;
 use refusal::Refusal;
+use response::Response;
 
 impl Chain {
     // The chain at the start, or the all-zero chain and refusal 1 where the count is outside 1 to 8.

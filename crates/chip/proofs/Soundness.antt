@@ -35,6 +35,10 @@ code-le c level e h = leb-true _ 3 (every-each 8 (λ level. leb (getD (c .counts
 pub level-le : (c : Chip) (level place : ℕ) → chipSound c ≡ true → c .destination ≡ Level level place → level ≤ 7
 level-le c level place e d = leb-true level 7 (both-left _ (leb place 4) (ap destinationSound (sym d) ∙ destination-sound c e))
 
+-- and its place at most 4
+pub place-le : (c : Chip) (level place : ℕ) → chipSound c ≡ true → c .destination ≡ Level level place → place ≤ 4
+place-le c level place e d = leb-true place 4 (both-right (leb level 7) _ (ap destinationSound (sym d) ∙ destination-sound c e))
+
 -- a place that is not past its count is a place of the memory
 pub place-lt : (c : Chip) (level place : ℕ) → chipSound c ≡ true → c .destination ≡ Level level place → isPastItsCount (c .counts) (c .destination) ≡ false → place < 4
 place-lt c level place e d left =

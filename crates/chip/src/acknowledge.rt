@@ -1,6 +1,5 @@
 // What an acknowledge does inside the chip that answers.
 ghost use mathlib.Core.Path.{_≡_};
-ghost use Prim.Native.Nat.{_<_};
 ghost use Rattle.chip.specs.Acknowledge.{answered, responseLevel, responseByte, finished};
 use crate::Chip;
 use crate::data::memory_place;
@@ -27,14 +26,12 @@ impl Chip {
         }
     }
 
-    // The byte that the chip drives at a pulse.
+    // The byte that the chip drives at a pulse; past the memory there is none.
     pub fn response_byte(self, level: u8, place: u8) -> u8
-        requires { ⌜ level < 8 ⌝ }
-        requires { ⌜ place < 4 ⌝ }
         ensures { λ r. ⌜ r ≡ responseByte self level place ⌝ }
     {
         let at = memory_place(level, place);
-        self.memory[at]
+        if at < 32 { self.memory[at] } else { 0 }
     }
 
     // The response of a channel is over: its ISR bit clears if its ACR bit is then set.

@@ -8,8 +8,20 @@ ghost use Rattle.chip.specs.declared.Meaning.the-variants.{Row};
 use crate::Chip;
 use crate::Command;
 use crate::Destination;
+use crate::Meaning;
 
 impl Chip {
+    // A command write: what its row says; an undefined one changes nothing.
+    pub fn commanded(self, code: u8) -> Chip
+        ensures { λ r. ⌜ r ≡ commanded (figure4 code) code self ⌝ }
+    {
+        let meaning = Meaning::of(code);
+        match meaning {
+            Meaning::Row(row) => self.command(row, code),
+            Meaning::Undefined => self,
+        }
+    }
+
     // A command write, with the code's row: it ends the earlier destination, the code becomes the last command, and the row is carried out.
     pub fn command(self, row: Command, code: u8) -> Chip
         requires { ⌜ figure4 code ≡ Row row ⌝ }

@@ -2,6 +2,7 @@
 ghost use mathlib.Core.Bool.{true, false};
 ghost use mathlib.Core.Path.{_≡_};
 ghost use Prim.Native.Nat.{_<_};
+ghost use lib.ListN.{getD, set};
 ghost use Rattle.chip.specs.Data.{byteCount, memoryPlace, hasNoDestination, isPastItsCount, written, dataRead};
 ghost use Rattle.chip.specs.Sound.{chipSound};
 ghost use Rattle.chip.specs.declared.Destination.the-variants.{Level};
@@ -13,6 +14,17 @@ pub(crate) fn memory_place(level: u8, place: u8) -> usize
     ensures { λ r. ⌜ r ≡ memoryPlace level place ⌝ }
 {
     level as usize * 4 + place as usize
+}
+
+// The response memory with a byte stored; past its end there is nothing to store.
+fn stored(mut memory: [u8; 32], at: usize, byte: u8) -> [u8; 32]
+    ensures { λ r. ⌜ r ≡ set memory at byte ⌝ }
+{
+    if at >= 32 {
+        return memory;
+    }
+    memory[at] = byte;
+    memory
 }
 
 impl Destination {
@@ -48,9 +60,16 @@ impl Chip {
         destination.is_nowhere()
     }
 
+    // The byte count code of a level; 0 where there is no such level.
+    fn code_of(self, level: u8) -> u8
+        ensures { λ r. ⌜ r ≡ getD (self .counts) level 0 ⌝ }
+    {
+        let n = level as usize;
+        if n < 8 { self.counts[n] } else { 0 }
+    }
+
     // Whether the destination is a level whose place is at or past its count.
     pub fn is_past_its_count(self) -> bool
-        requires { ⌜ chipSound self ≡ true ⌝ }
         ensures { λ r. ⌜ r ≡ isPastItsCount (self .counts) (self .destination) ⌝ }
     {
         let destination = self.destination;
@@ -58,14 +77,13 @@ impl Chip {
             Destination::Nowhere => false,
             Destination::Imr => false,
             Destination::Acr => false,
-            Destination::Level(level, place) => place >= self.byte_count(level),
+            Destination::Level(level, place) => place > self.code_of(level),
         }
     }
 
     // A data write: IMR and ACR may be written repeatedly; a level takes the byte at its next place.
     pub fn data(mut self, byte: u8) -> Chip
         requires { ⌜ chipSound self ≡ true ⌝ }
-        requires { ⌜ isPastItsCount (self .counts) (self .destination) ≡ false ⌝ }
         ensures { λ r. ⌜ r ≡ written (self .destination) byte self ⌝ }
     {
         let destination = self.destination;
@@ -85,12 +103,12 @@ impl Chip {
 
     // The byte at a place of a level, and the place moved on.
     fn at_level(mut self, level: u8, place: u8, byte: u8) -> Chip
-        requires { ⌜ level < 8 ⌝ }
-        requires { ⌜ place < 4 ⌝ }
+        requires { ⌜ place < 255 ⌝ }
         ensures { λ r. ⌜ r ≡ written (Level level place) byte self ⌝ }
     {
-        let at = memory_place(level, place);
-        self.memory[at] = byte;
+        let memory = self.memory;
+        let after = stored(memory, memory_place(level, place), byte);
+        self.memory = after;
         self.with_destination(Destination::Level(level, place + 1))
     }
 

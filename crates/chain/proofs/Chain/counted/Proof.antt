@@ -1,7 +1,7 @@
 -- `chain::Chain::counted` meets its contract.
 -- Assumes nothing.
 use borrow.Author.Needs.{needs}
-use Rattle.chain.specs.Events.{counted}
+use Rattle.chain.specs.Apply.{counted}
 use Rattle.chain.proofs.Rules.{chainFields}
 use Rattle.chain.proofs.Chain.counted.Statement.{statement}
 use Rattle.chain.proofs.Chain.counted.Tie as tie

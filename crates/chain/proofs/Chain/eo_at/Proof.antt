@@ -11,7 +11,7 @@ eo-of-requires : tie.Need-eo-of-requires
 eo-of-requires c κs = search needs
 
 returns : tie.Need-returns
-returns c = simp (← c .before .chip-at .ensures, c .eo-of .ensures)
+returns c = simp (c .eo-of .ensures, c .before .chip-at .ensures)
 
 pub eo-at-spec : {M : Type 1} → statement M
 eo-at-spec = tie.close (tie.spec chip-at-requires eo-of-requires returns)

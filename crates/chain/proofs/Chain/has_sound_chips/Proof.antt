@@ -24,7 +24,7 @@ loop-holds : tie.Need-loop-holds Inv-loop μ-loop
 loop-holds c = (omega arith, below-none _)
 
 chip-at-requires : tie.Need-chip-at-requires Inv-loop μ-loop
-chip-at-requires c κs = omega arith
+chip-at-requires c κs = search needs
 
 is-sound-requires : tie.Need-is-sound-requires Inv-loop μ-loop
 is-sound-requires c κs = search needs

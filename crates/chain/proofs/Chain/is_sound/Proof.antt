@@ -1,10 +1,7 @@
 -- `chain::Chain::is_sound` meets its contract.
 -- Assumes nothing.
-use mathlib.Core.Path.{sym, _∙_}
-use lib.Dec.{leb}
 use borrow.Author.Needs.{needs}
-use borrow.Author.Tests.{leb-true, not-true, not-false}
-use Rattle.bits.proofs.Below.{both-right}
+use borrow.Author.Tests.{not-true, not-false}
 use Rattle.chain.specs.Sound.{sound}
 use Rattle.chain.proofs.Chain.is_sound.Statement.{statement}
 use Rattle.chain.proofs.Chain.is_sound.Tie as tie
@@ -17,7 +14,7 @@ unfolding sound
 returns c = simp (← c .before .is-count .ensures, not-true (c .before .is-count .result) (c .if1 .taken))
 
 has-sound-chips-requires : tie.Need-has-sound-chips-requires
-has-sound-chips-requires c κs = leb-true (c .before .before .args .self .count) 8 (both-right (leb 1 (c .before .before .args .self .count)) _ (sym (c .before .is-count .ensures) ∙ not-false (c .before .is-count .result) (c .if1 .left)))
+has-sound-chips-requires c κs = search needs
 
 is-sound-requires : tie.Need-is-sound-requires
 is-sound-requires c κs = search needs

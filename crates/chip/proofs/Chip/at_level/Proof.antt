@@ -9,20 +9,20 @@ use Rattle.chip.proofs.Chip.at_level.Tie as tie
 memory-place-requires : tie.Need-memory-place-requires
 memory-place-requires c κs = search needs
 
-element-write-self : tie.Need-element-write-self
-element-write-self c = search needs
+stored-requires : tie.Need-stored-requires
+stored-requires c κs = search needs
 
-add-t10 : tie.Need-add-t10
-add-t10 c = search needs
+add-t8 : tie.Need-add-t8
+add-t8 c = search needs
 
 with-destination-requires : tie.Need-with-destination-requires
 with-destination-requires c κs = search needs
 
 returns : tie.Need-returns
 unfolding chipFields written
-returns c = simp (c .with-destination .ensures, c .before .memory-place .ensures)
+returns c = simp (c .with-destination .ensures, c .before .stored .ensures, c .before .before .memory-place .ensures)
 
 pub at-level-spec : {M : Type 1} → statement M
 at-level-spec =
     tie.close
-    (tie.spec memory-place-requires element-write-self add-t10 with-destination-requires returns)
+    (tie.spec memory-place-requires stored-requires add-t8 with-destination-requires returns)

@@ -1,10 +1,10 @@
 -- `chip::Chip::data` meets its contract.
 -- Assumes nothing.
-use native.Mathlib.Omega.{arith}
 use borrow.Author.Needs.{needs}
+use native.Mathlib.Omega.{arith}
 use Rattle.chip.specs.Data.{written}
 use Rattle.chip.proofs.Rules.{chipFields}
-use Rattle.chip.proofs.Soundness.{level-le, place-lt}
+use Rattle.chip.proofs.Soundness.{place-le}
 use Rattle.chip.proofs.Chip.data.Statement.{statement}
 use Rattle.chip.proofs.Chip.data.Tie as tie
 
@@ -21,7 +21,7 @@ enum-known-destination : tie.Need-enum-known-destination
 enum-known-destination c = search needs
 
 at-level-requires : tie.Need-at-level-requires
-at-level-requires c κs = (let h = level-le _ _ _ (c .before .before .before .pre .0) (c .before .destination .given .1) in omega arith, place-lt _ _ _ (c .before .before .before .pre .0) (c .before .destination .given .1) (c .before .before .before .pre .1))
+at-level-requires c κs = let h = place-le _ _ _ (c .before .before .before .pre) (c .before .destination .given .1) in omega arith
 
 returns : tie.Need-returns
 unfolding written

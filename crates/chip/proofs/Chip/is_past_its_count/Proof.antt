@@ -1,8 +1,7 @@
 -- `chip::Chip::is_past_its_count` meets its contract.
 -- Assumes nothing.
-use native.Mathlib.Omega.{arith}
+use native.Mathlib.Numerals.{add-one}
 use borrow.Author.Needs.{needs}
-use Rattle.chip.proofs.Soundness.{level-le}
 use Rattle.chip.proofs.Chip.is_past_its_count.Statement.{statement}
 use Rattle.chip.proofs.Chip.is_past_its_count.Tie as tie
 
@@ -18,8 +17,8 @@ enum-told-3 c = search needs
 enum-known-destination : tie.Need-enum-known-destination
 enum-known-destination c = search needs
 
-byte-count-requires : tie.Need-byte-count-requires
-byte-count-requires c κs = (c .before .before .before .pre, let h = level-le _ _ _ (c .before .before .before .pre) (c .before .destination .given .1) in omega arith)
+code-of-requires : tie.Need-code-of-requires
+code-of-requires c κs = search needs
 
 returns : tie.Need-returns
 returns c = search needs
@@ -31,7 +30,7 @@ returns-3 : tie.Need-returns-3
 returns-3 c = search needs
 
 returns-4 : tie.Need-returns-4
-returns-4 c = simp (c .byte-count .ensures, c .before .before .destination .given .1)
+returns-4 c = simp (add-one, c .code-of .ensures, c .before .before .destination .given .1)
 
 pub is-past-its-count-spec : {M : Type 1} → statement M
 is-past-its-count-spec =
@@ -41,7 +40,7 @@ is-past-its-count-spec =
     enum-told-2
     enum-told-3
     enum-known-destination
-    byte-count-requires
+    code-of-requires
     returns
     returns-2
     returns-3

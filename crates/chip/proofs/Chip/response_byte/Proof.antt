@@ -1,6 +1,10 @@
 -- `chip::Chip::response_byte` meets its contract.
 -- Assumes nothing.
 use borrow.Author.Needs.{needs}
+use mathlib.Core.Path.{_≡_, sym}
+use native.Mathlib.Omega.{arith}
+use lib.ListN.{length}
+use Rattle.bits.proofs.Stored.{getD-past}
 use Rattle.chip.proofs.Chip.response_byte.Statement.{statement}
 use Rattle.chip.proofs.Chip.response_byte.Tie as tie
 
@@ -11,7 +15,11 @@ element-copy-out-result : tie.Need-element-copy-out-result
 element-copy-out-result c = search needs
 
 returns : tie.Need-returns
-returns c = simp (← c .before .memory-place .ensures)
+returns c = simp (← c .before .before .memory-place .ensures)
+
+returns-2 : tie.Need-returns-2
+returns-2 c = let whole : length (c .before .before .args .t1 .memory) ≡ 32 = search needs in sym (getD-past (c .before .before .args .t1 .memory) _ 0 (omega (arith, whole, c .before .memory-place .ensures, c .if1 .left)))
 
 pub response-byte-spec : {M : Type 1} → statement M
-response-byte-spec = tie.close (tie.spec memory-place-requires element-copy-out-result returns)
+response-byte-spec =
+    tie.close (tie.spec memory-place-requires element-copy-out-result returns returns-2)

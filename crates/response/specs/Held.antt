@@ -1,0 +1,39 @@
+-- What is held of a response (document 01, "A chip" and events 1, 7 and 8).
+use mathlib.Core.Bool.{Bool, true, false, cond, _&&_}
+use Prim.Native.Nat.{ℕ, _+_}
+use lib.Dec.{eqb}
+use Rattle.search.specs.Candidate.{channelOf}
+use Rattle.chip.specs.Acknowledge.{responseLevel, responseLength}
+use Rattle.chip.specs.Figure4.{isReset}
+use Rattle.chip.specs.Status.{candidateOf}
+use Rattle.chip.specs.declared.Chip.{Chip}
+use Rattle.response.specs.declared.Reply.{Reply}
+use Rattle.response.specs.declared.Response.{Response}
+use Rattle.response.specs.declared.Response.the-variants.{Idle, UnderWay}
+
+-- the response of chip i for a channel, before its first byte: level and length are held from here on
+abbrev pub replyTo : ℕ → Chip → ℕ → Reply
+replyTo i c channel =
+    record { chip = i; channel = channel; level = responseLevel c channel; length = responseLength c channel; delivered = 0 }
+
+-- the response of chip i for its candidate
+abbrev pub replyOf : ℕ → Chip → Reply
+replyOf i c = replyTo i c (channelOf (candidateOf c))
+
+-- a response with one byte more delivered
+abbrev pub oneMore : Reply → Reply
+oneMore r = record { chip = r .chip; channel = r .channel; level = r .level; length = r .length; delivered = r .delivered + 1 }
+
+-- no response is under way
+abbrev pub isIdle : Response → Bool
+isIdle Idle = true
+isIdle (UnderWay r) = false
+
+-- chip i is responding
+abbrev pub isResponding : Response → ℕ → Bool
+isResponding Idle i = false
+isResponding (UnderWay r) i = eqb (r .chip) i
+
+-- a reset of chip i ends a response of that chip (D)
+abbrev pub afterCommand : ℕ → ℕ → Response → Response
+afterCommand i code response = cond (isReset code && isResponding response i) Idle response
