@@ -1,5 +1,6 @@
 pub mod Figure4
 pub mod Kept
+pub mod Past
 pub mod Pointer
 pub mod Rules
 pub mod Soundness

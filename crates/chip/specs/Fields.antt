@@ -1,5 +1,5 @@
 -- A chip with one field replaced. antt has no record update, so the whole record is spelt out in this file, and in no other.
-use mathlib.Core.List.{List, []}
+use mathlib.Core.List.{List}
 use Prim.Native.Nat.{ℕ}
 use lib.ListN.{replicate}
 use Rattle.chip.specs.declared.Chip.{Chip}
@@ -54,8 +54,3 @@ withDestination new c =
 unfoldable pub zeroChip : Chip
 zeroChip =
     record { irr = 0; isr = 0; imr = 0; acr = 0; mode = 0; command = 0; memory = replicate 32 0; counts = replicate 8 0; lines = 0; pointer = 0; destination = Nowhere }
-
--- what stands past the end of a list of chips; a chain has eight records, so no rule of the paper ever meets it
-abbrev pub noChip : Chip
-noChip =
-    record { irr = 0; isr = 0; imr = 0; acr = 0; mode = 0; command = 0; memory = []; counts = []; lines = 0; pointer = 0; destination = Nowhere }

@@ -12,12 +12,12 @@ use lib.Seq.{take-all, take-add, drop-at, drop-cons, drop-drop, drop-append-add}
 use borrow.Author.Tests.{eqb-true, ne-eqb, leb-true, le-leb, lt-leb, ltb-true, lt-ltb}
 use Rattle.bits.specs.Below.{digit}
 use Rattle.bits.proofs.Below.{digit-lt, either, both-left, both-right}
-use Rattle.chip.specs.Fields.{noChip}
+use Rattle.chip.specs.Fields.{zeroChip}
 use Rattle.chip.specs.declared.Chip.{Chip}
 use Rattle.chip.specs.declared.Destination.{Destination}
 use Rattle.chip.specs.declared.Destination.the-variants.{Nowhere, Imr, Acr, Level}
-use Rattle.chain.specs.declared.Response.{Response}
-use Rattle.chain.specs.declared.Response.the-variants.{Idle, UnderWay}
+use Rattle.response.specs.declared.Response.{Response}
+use Rattle.response.specs.declared.Response.the-variants.{Idle, UnderWay}
 use Rattle.image.specs.Layout.{destinationBytes, registerBytes, chipRecord, responseBytes, head, records}
 use Rattle.image.specs.OneToOne.{WholeChip}
 use Rattle.image.specs.Reading.{byte, destinationIn, chipIn, chipsIn, responseIn, chainIn, isZero, responseForm, destinationForm, headForm, recordForm}
@@ -159,7 +159,7 @@ record-formed c rest whole =
     ap₂ (λ kind zeros. kind && isZero zeros) (destination-formed (c .destination) (c .counts) (replicate 8 0) (c .memory) rest) behind
 
 -- and so is each of those one behind the other
-pub records-formed : (cs : List Chip) → ((i : ℕ) → i < length cs → WholeChip (getD cs i noChip)) → (i : ℕ) → i < length cs → recordForm (drop (64 * i) (records cs)) ≡ true
+pub records-formed : (cs : List Chip) → ((i : ℕ) → i < length cs → WholeChip (getD cs i zeroChip)) → (i : ℕ) → i < length cs → recordForm (drop (64 * i) (records cs)) ≡ true
 records-formed [] whole i h = absurd (not-suc-le-zero h)
 records-formed (c ∷ cs) whole zero h = record-formed c (records cs) (whole 0 h)
 records-formed (c ∷ cs) whole (suc i) h =

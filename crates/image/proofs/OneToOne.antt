@@ -11,10 +11,10 @@ use lib.Seq.{drop-at, drop-drop, drop-append-add}
 use borrow.Author.Tests.{eqb-true, eq-eqb}
 use Rattle.bits.specs.Below.{digit}
 use Rattle.bits.proofs.Below.{both-left, both-right, every-each, every-all}
-use Rattle.chip.specs.Fields.{noChip}
+use Rattle.chip.specs.Fields.{zeroChip}
 use Rattle.chip.specs.declared.Chip.{Chip}
 use Rattle.chain.specs.declared.Chain.{Chain}
-use Rattle.chain.specs.declared.Response.{Response}
+use Rattle.response.specs.declared.Response.{Response}
 use Rattle.image.specs.Layout.{head, records, imageOf}
 use Rattle.image.specs.OneToOne.{WholeChip, Whole, OneToOne}
 use Rattle.image.specs.Reading.{chipIn, chipsIn, responseIn, chainIn, headForm, recordForm, recordsForm, isImage}
@@ -93,7 +93,7 @@ read-whole b long =
       eight-chips = chips-length 8 (drop 16 b);
       whole-chips =
           λ i h.
-          subst WholeChip (sym (chips-at 8 (drop 16 b) i noChip h))
+          subst WholeChip (sym (chips-at 8 (drop 16 b) i zeroChip h))
           (whole-chip (drop (64 * i) (drop 16 b)) (omega (arith, h, long, length-drop (64 * i) (drop 16 b), length-drop 16 b)));
     }
 

@@ -9,12 +9,12 @@ use native.Mathlib.Omega.{arith}
 use lib.ListN.{length, getD, set, take, drop, replicate}
 use lib.Seq.{drop-at, take-append-add, drop-append-add}
 use Rattle.bits.specs.Below.{digit}
-use Rattle.chip.specs.Fields.{noChip}
+use Rattle.chip.specs.Fields.{zeroChip}
 use Rattle.chip.specs.declared.Chip.{Chip}
 use Rattle.chain.specs.Fields.{withChips, withChip, withEnable, withIack, withResponse, withEvent}
 use Rattle.chain.specs.declared.Chain.{Chain}
-use Rattle.chain.specs.declared.Response.{Response}
-use Rattle.chain.specs.declared.Response.the-variants.{Idle, UnderWay}
+use Rattle.response.specs.declared.Response.{Response}
+use Rattle.response.specs.declared.Response.the-variants.{Idle, UnderWay}
 use Rattle.image.specs.Layout.{chipRecord, responseBytes, head, records, imageOf, over}
 use Rattle.image.specs.OneToOne.{WholeChip, Whole}
 use Rattle.image.specs.Reading.{chainIn, isImage}
@@ -40,7 +40,7 @@ over-behind p l new n =
     ∙ append-assoc p (take n l ++ new) (drop (n + length new) l)
 
 -- a record written over the i-th is the record of the chip that replaces the i-th
-record-over : (cs : List Chip) (i : ℕ) (c : Chip) → WholeChip c → ((k : ℕ) → k < length cs → WholeChip (getD cs k noChip)) → i < length cs →
+record-over : (cs : List Chip) (i : ℕ) (c : Chip) → WholeChip c → ((k : ℕ) → k < length cs → WholeChip (getD cs k zeroChip)) → i < length cs →
     over (records cs) (64 * i) (chipRecord c) ≡ records (set cs i c)
 record-over [] i c whole each h = absurd (not-suc-le-zero h)
 record-over (x ∷ cs) zero c whole each h =

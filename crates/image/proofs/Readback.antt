@@ -10,12 +10,12 @@ use lib.Dec.{eqb}
 use lib.ListN.{length, getD, take, drop, replicate, length-append}
 use lib.Seq.{take-at, drop-at}
 use Rattle.bits.specs.Below.{digit}
-use Rattle.chip.specs.Fields.{noChip}
+use Rattle.chip.specs.Fields.{zeroChip}
 use Rattle.chip.specs.declared.Chip.{Chip}
 use Rattle.chip.specs.declared.Destination.{Destination}
 use Rattle.chip.specs.declared.Destination.the-variants.{Nowhere, Imr, Acr, Level}
-use Rattle.chain.specs.declared.Response.{Response}
-use Rattle.chain.specs.declared.Response.the-variants.{Idle, UnderWay}
+use Rattle.response.specs.declared.Response.{Response}
+use Rattle.response.specs.declared.Response.the-variants.{Idle, UnderWay}
 use Rattle.image.specs.Layout.{destinationBytes, registerBytes, chipRecord, responseBytes, records}
 use Rattle.image.specs.OneToOne.{WholeChip}
 use Rattle.image.specs.Reading.{byte, destinationIn, chipIn, chipsIn, responseIn}
@@ -83,7 +83,7 @@ chip-back c rest whole =
     ∙ ap (with-these (c .memory) (c .counts)) (destination-back (c .destination) (replicate 5 0) (c .counts) (replicate 8 0) (c .memory) rest)
 
 -- so many records, and the chips in them
-pub chips-back : (cs : List Chip) → ((i : ℕ) → i < length cs → WholeChip (getD cs i noChip)) → chipsIn (length cs) (records cs) ≡ cs
+pub chips-back : (cs : List Chip) → ((i : ℕ) → i < length cs → WholeChip (getD cs i zeroChip)) → chipsIn (length cs) (records cs) ≡ cs
 chips-back [] whole = refl
 chips-back (c ∷ cs) whole =
     ap₂ (λ chip chips. chip ∷ chips) (chip-back c (records cs) (whole 0 (zero-lt-suc (length cs))))

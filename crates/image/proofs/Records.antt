@@ -8,13 +8,13 @@ use native.Mathlib.Omega.{arith}
 use native.Mathlib.Numerals.{add-one}
 use lib.ListN.{length, getD, take, drop, replicate, length-append, length-take, drop-of-length-le}
 use lib.Seq.{take-at, drop-drop}
-use Rattle.chip.specs.Fields.{noChip}
+use Rattle.chip.specs.Fields.{zeroChip}
 use Rattle.chip.specs.declared.Chip.{Chip}
 use Rattle.chip.specs.declared.Destination.{Destination}
 use Rattle.chip.specs.declared.Destination.the-variants.{Nowhere, Imr, Acr, Level}
 use Rattle.chain.specs.declared.Chain.{Chain}
-use Rattle.chain.specs.declared.Response.{Response}
-use Rattle.chain.specs.declared.Response.the-variants.{Idle, UnderWay}
+use Rattle.response.specs.declared.Response.{Response}
+use Rattle.response.specs.declared.Response.the-variants.{Idle, UnderWay}
 use Rattle.image.specs.Layout.{destinationBytes, registerBytes, chipRecord, responseBytes, head, records, over}
 use Rattle.image.specs.Reading.{chipIn, chipsIn}
 use Rattle.image.specs.OneToOne.{WholeChip}
@@ -74,6 +74,11 @@ record-written r c whole long =
     ∙ ap (λ rest. a ++ c .counts ++ replicate 8 0 ++ c .memory ++ rest) (drop-of-length-le r {i = 64} (omega (arith, long)))
     ∙ append-nil (a ++ c .counts ++ replicate 8 0 ++ c .memory)
 
+-- so many chips
+pub chips-length : (n : ℕ) (b : List ℕ) → length (chipsIn n b) ≡ n
+chips-length zero b = refl
+chips-length (suc n) b = ap suc (chips-length n (drop 64 b))
+
 -- one record more
 records-more : (cs : List Chip) (i : ℕ) (d : Chip) → i < length cs → records (take (suc i) cs) ≡ records (take i cs) ++ chipRecord (getD cs i d)
 records-more [] i d h = absurd (not-suc-le-zero h)
@@ -102,12 +107,8 @@ chips-at (suc n) b (suc i) d h =
     chips-at n (drop 64 b) i d (le-of-suc-le-suc h)
     ∙ ap chipIn (drop-drop (64 * i) 64 b ∙ ap (λ (m : ℕ). drop m b) more)
 
-pub chips-length : (n : ℕ) (b : List ℕ) → length (chipsIn n b) ≡ n
-chips-length zero b = refl
-chips-length (suc n) b = ap suc (chips-length n (drop 64 b))
-
 -- each record is 64 bytes
-pub records-length : (cs : List Chip) → ((i : ℕ) → i < length cs → WholeChip (getD cs i noChip)) → length (records cs) ≡ 64 * length cs
+pub records-length : (cs : List Chip) → ((i : ℕ) → i < length cs → WholeChip (getD cs i zeroChip)) → length (records cs) ≡ 64 * length cs
 records-length [] whole = refl
 records-length (c ∷ cs) whole =
     let others : length (records cs) ≡ 64 * length cs = records-length cs (λ i h. whole (suc i) (suc-le-suc h)) in

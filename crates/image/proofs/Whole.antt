@@ -8,7 +8,7 @@ use lib.Dec.{eqb}
 use lib.ListN.{getD, set, length, length-set}
 use lib.Seq.{getD-set-same, getD-set-other}
 use borrow.Author.Tests.{eqb-true, eqb-false}
-use Rattle.chip.specs.Fields.{noChip}
+use Rattle.chip.specs.Fields.{zeroChip}
 use Rattle.chip.specs.declared.Chip.{Chip}
 use Rattle.chain.specs.Fields.{chipAt, withChips, withChip}
 use Rattle.chain.specs.declared.Chain.{Chain}
@@ -19,7 +19,7 @@ pub same-chips : (s t : Chain) → t .chips ≡ s .chips → Whole s → Whole t
 same-chips s t is whole =
     record {
       eight-chips = ap length is ∙ whole .eight-chips;
-      whole-chips = λ k h. subst (λ (cs : List Chip). WholeChip (getD cs k noChip)) (sym is) (whole .whole-chips k h);
+      whole-chips = λ k h. subst (λ (cs : List Chip). WholeChip (getD cs k zeroChip)) (sym is) (whole .whole-chips k h);
     }
 
 -- a chip that is replaced; past the eight nothing is
@@ -32,6 +32,6 @@ whole-with i c s new whole =
     at true k is h =
         let same : k ≡ i = eqb-true k i is in
         let below : i < 8 = subst (λ n. n < 8) same h in
-        subst (λ n. WholeChip (getD (set (s .chips) i c) n noChip)) (sym same)
-        (subst WholeChip (sym (getD-set-same (s .chips) i c noChip (subst (λ n. i < n) (sym (whole .eight-chips)) below))) (new below))
-    at false k is h = subst WholeChip (sym (getD-set-other (s .chips) i k c noChip (eqb-false k i is))) (whole .whole-chips k h)
+        subst (λ n. WholeChip (getD (set (s .chips) i c) n zeroChip)) (sym same)
+        (subst WholeChip (sym (getD-set-same (s .chips) i c zeroChip (subst (λ n. i < n) (sym (whole .eight-chips)) below))) (new below))
+    at false k is h = subst WholeChip (sym (getD-set-other (s .chips) i k c zeroChip (eqb-false k i is))) (whole .whole-chips k h)

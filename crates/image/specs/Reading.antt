@@ -9,8 +9,8 @@ use Rattle.chip.specs.declared.Chip.{Chip}
 use Rattle.chip.specs.declared.Destination.{Destination}
 use Rattle.chip.specs.declared.Destination.the-variants.{Nowhere, Imr, Acr, Level}
 use Rattle.chain.specs.declared.Chain.{Chain}
-use Rattle.chain.specs.declared.Response.{Response}
-use Rattle.chain.specs.declared.Response.the-variants.{Idle, UnderWay}
+use Rattle.response.specs.declared.Response.{Response}
+use Rattle.response.specs.declared.Response.the-variants.{Idle, UnderWay}
 
 -- byte n
 abbrev pub byte : List ℕ → ℕ → ℕ

@@ -3,6 +3,10 @@ ghost use mathlib.Core.Path.{_≡_};
 ghost use Prim.Native.Nat.{_≤_};
 ghost use lib.ListN.{length};
 ghost use Rattle.image.specs.Reading.{isZero, responseForm, destinationForm, headForm, recordForm, recordsForm};
+use crate::places::ENABLE;
+use crate::places::IACK;
+use crate::places::RECORD;
+use crate::places::RECORDS;
 
 // Whether bytes are all zero.
 fn is_zero(bytes: &[u8]) -> bool
@@ -37,7 +41,7 @@ pub(crate) fn is_head(image: &[u8]) -> bool
     requires { ⌜ 16 ≤ length (now image) ⌝ }
     ensures { λ r. ⌜ r ≡ headForm (now (image .entry)) ⌝ }
 {
-    (image[1] <= 1) & (image[2] <= 1) & is_response(&image[5..11]) & is_zero(&image[11..16])
+    (image[ENABLE] <= 1) & (image[IACK] <= 1) & is_response(&image[5..11]) & is_zero(&image[11..16])
 }
 
 // Whether a chip record is of the form.
@@ -54,7 +58,7 @@ pub(crate) fn has_records(image: &[u8]) -> bool
     ensures { λ r. ⌜ r ≡ recordsForm (now (image .entry)) ⌝ }
 {
     for i in 0usize..8 {
-        let at = 16 + 64 * i;
+        let at = RECORDS + RECORD * i;
         if !is_record(&image[at..]) {
             return false;
         }

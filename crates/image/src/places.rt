@@ -2,8 +2,7 @@
 // Each function asks for an image; is_image has told, and each leaves one.
 ghost use mathlib.Core.Bool.{true};
 ghost use mathlib.Core.Path.{_≡_};
-ghost use Prim.Native.Nat.{_<_};
-ghost use Rattle.chain.specs.Events.{counted};
+ghost use Rattle.chain.specs.Apply.{counted};
 ghost use Rattle.chain.specs.Fields.{chipAt, withChip, withEnable, withIack, withResponse};
 ghost use Rattle.image.specs.Reading.{chainIn, isImage};
 use crate::reading::chip_in;
@@ -11,28 +10,47 @@ use crate::reading::event_of;
 use crate::writing::put_bytes;
 use crate::writing::put_chip;
 use crate::writing::response_bytes;
-use chain::Response;
 use chip::Chip;
+use response::Response;
 
-// Chip i.
+// Where the parts of an image begin: in the head the count, Enable In, IACK, the event number's two bytes and the response; then the chip records, and how long each is.
+pub(crate) const COUNT: usize = 0;
+pub(crate) const ENABLE: usize = 1;
+pub(crate) const IACK: usize = 2;
+pub(crate) const EVENT_LOW: usize = 3;
+pub(crate) const EVENT_HIGH: usize = 4;
+pub(crate) const RESPONSE: usize = 5;
+pub(crate) const RESPONSE_CHIP: usize = 6;
+pub(crate) const RESPONSE_CHANNEL: usize = 7;
+pub(crate) const RESPONSE_LEVEL: usize = 8;
+pub(crate) const RESPONSE_LENGTH: usize = 9;
+pub(crate) const RESPONSE_DELIVERED: usize = 10;
+pub(crate) const RECORDS: usize = 16;
+pub(crate) const RECORD: usize = 64;
+
+// Chip i; past the eight records, a chip that is all zero.
 pub(crate) fn chip_at(image: &[u8], i: u8) -> Chip
     requires { ⌜ isImage (now image) ≡ true ⌝ }
-    requires { ⌜ i < 8 ⌝ }
     ensures { λ r. ⌜ r ≡ chipAt (chainIn (now (image .entry))) i ⌝ }
 {
-    let at = 16 + 64 * i as usize;
+    if i >= 8 {
+        return Chip::zero();
+    }
+    let at = RECORDS + RECORD * i as usize;
     chip_in(&image[at..])
 }
 
-// Chip i replaced.
+// Chip i replaced; past the eight records nothing is.
 pub(crate) fn set_chip(image: &mut [u8], i: u8, chip: Chip)
     requires { ⌜ isImage (now image) ≡ true ⌝ }
-    requires { ⌜ i < 8 ⌝ }
     ensures { λ _. ⌜ isImage (now (image .exit)) ≡ true ⌝ }
     ensures { λ _. ⌜ chainIn (now (image .exit)) ≡ withChip i chip (chainIn (now (image .entry))) ⌝ }
 {
-    let at = 16 + 64 * i as usize;
-    let end = at + 64;
+    if i >= 8 {
+        return;
+    }
+    let at = RECORDS + RECORD * i as usize;
+    let end = at + RECORD;
     put_chip(&mut image[at..end], chip);
 }
 
@@ -42,7 +60,7 @@ pub(crate) fn set_enable(image: &mut [u8], high: bool)
     ensures { λ _. ⌜ isImage (now (image .exit)) ≡ true ⌝ }
     ensures { λ _. ⌜ chainIn (now (image .exit)) ≡ withEnable high (chainIn (now (image .entry))) ⌝ }
 {
-    image[1] = bits::digit_of(high);
+    image[ENABLE] = bits::digit_of(high);
 }
 
 // IACK at a level.
@@ -51,7 +69,7 @@ pub(crate) fn set_iack(image: &mut [u8], high: bool)
     ensures { λ _. ⌜ isImage (now (image .exit)) ≡ true ⌝ }
     ensures { λ _. ⌜ chainIn (now (image .exit)) ≡ withIack high (chainIn (now (image .entry))) ⌝ }
 {
-    image[2] = bits::digit_of(high);
+    image[IACK] = bits::digit_of(high);
 }
 
 // The response replaced.
@@ -61,7 +79,7 @@ pub(crate) fn set_response(image: &mut [u8], response: Response)
     ensures { λ _. ⌜ chainIn (now (image .exit)) ≡ withResponse response (chainIn (now (image .entry))) ⌝ }
 {
     let bytes = response_bytes(response);
-    put_bytes(image, 5, &bytes);
+    put_bytes(image, RESPONSE, &bytes);
 }
 
 // One more accepted event: from 65,535 the event number rolls over to 0.
@@ -70,7 +88,7 @@ pub(crate) fn count_event(image: &mut [u8])
     ensures { λ _. ⌜ isImage (now (image .exit)) ≡ true ⌝ }
     ensures { λ _. ⌜ chainIn (now (image .exit)) ≡ counted (chainIn (now (image .entry))) ⌝ }
 {
-    let event = std::num::wrapping_add_u16(event_of(image[3], image[4]), 1);
-    image[3] = (event % 256) as u8;
-    image[4] = (event / 256) as u8;
+    let event = std::num::wrapping_add_u16(event_of(image[EVENT_LOW], image[EVENT_HIGH]), 1);
+    image[EVENT_LOW] = (event % 256) as u8;
+    image[EVENT_HIGH] = (event / 256) as u8;
 }

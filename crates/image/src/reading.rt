@@ -3,12 +3,25 @@ ghost use mathlib.Core.Path.{_≡_};
 ghost use Prim.Native.Nat.{_+_, _*_, _≤_};
 ghost use lib.ListN.{length, take, drop};
 ghost use Rattle.image.specs.Reading.{destinationIn, chipIn, chipsIn, responseIn, chainIn};
+use crate::places::COUNT;
+use crate::places::ENABLE;
+use crate::places::EVENT_HIGH;
+use crate::places::EVENT_LOW;
+use crate::places::IACK;
+use crate::places::RECORD;
+use crate::places::RECORDS;
+use crate::places::RESPONSE;
+use crate::places::RESPONSE_CHANNEL;
+use crate::places::RESPONSE_CHIP;
+use crate::places::RESPONSE_DELIVERED;
+use crate::places::RESPONSE_LENGTH;
+use crate::places::RESPONSE_LEVEL;
 use crate::writing::put_bytes;
 use chain::Chain;
-use chain::Reply;
-use chain::Response;
 use chip::Chip;
 use chip::Destination;
+use response::Reply;
+use response::Response;
 
 // The destination that three bytes of a record name.
 fn destination_in(kind: u8, level: u8, place: u8) -> Destination
@@ -67,13 +80,13 @@ pub(crate) fn response_in(image: &[u8]) -> Response
     requires { ⌜ 16 ≤ length (now image) ⌝ }
     ensures { λ r. ⌜ r ≡ responseIn (now (image .entry)) ⌝ }
 {
-    if image[5] == 1 {
+    if image[RESPONSE] == 1 {
         Response::UnderWay(Reply {
-            chip: image[6],
-            channel: image[7],
-            level: image[8],
-            length: image[9],
-            delivered: image[10],
+            chip: image[RESPONSE_CHIP],
+            channel: image[RESPONSE_CHANNEL],
+            level: image[RESPONSE_LEVEL],
+            length: image[RESPONSE_LENGTH],
+            delivered: image[RESPONSE_DELIVERED],
         })
     } else {
         Response::Idle
@@ -95,7 +108,7 @@ fn chips_in(image: &[u8]) -> [Chip; 8]
     let zero = Chip::zero();
     let mut chips = [zero; 8];
     for i in 0usize..8 {
-        let at = 16 + 64 * i;
+        let at = RECORDS + RECORD * i;
         chips[i] = chip_in(&image[at..]);
     }
     chips
@@ -109,11 +122,11 @@ pub fn chain_in(image: &[u8]) -> Chain
     let chips = chips_in(image);
     let response = response_in(image);
     Chain {
-        count: image[0],
+        count: image[COUNT],
         chips: chips,
-        enable: image[1] == 1,
-        iack: image[2] == 1,
+        enable: image[ENABLE] == 1,
+        iack: image[IACK] == 1,
         response: response,
-        event: event_of(image[3], image[4]),
+        event: event_of(image[EVENT_LOW], image[EVENT_HIGH]),
     }
 }

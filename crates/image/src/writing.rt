@@ -3,10 +3,12 @@ ghost use mathlib.Core.Path.{_≡_};
 ghost use Prim.Native.Nat.{_+_, _≤_};
 ghost use lib.ListN.{length};
 ghost use Rattle.image.specs.Layout.{destinationBytes, registerBytes, chipRecord, responseBytes, head, imageOf, over};
+use crate::places::RECORD;
+use crate::places::RECORDS;
 use chain::Chain;
-use chain::Response;
 use chip::Chip;
 use chip::Destination;
+use response::Response;
 
 // Bytes written over those from a place on.
 pub fn put_bytes(to: &mut [u8], at: usize, from: &[u8])
@@ -115,8 +117,8 @@ pub fn put_chain(image: &mut [u8], chain: Chain)
     let head = head_of(chain);
     put_bytes(image, 0, &head);
     for i in 0usize..8 {
-        let at = 16 + 64 * i;
-        let end = at + 64;
+        let at = RECORDS + RECORD * i;
+        let end = at + RECORD;
         put_chip(&mut image[at..end], chain.chips[i]);
     }
 }

@@ -2,54 +2,75 @@
 -- Assumes nothing.
 use mathlib.Core.Path.{_≡_, ap, sym, _∙_}
 use borrow.Author.Needs.{needs}
-use Rattle.refusal.specs.declared.Verdict.the-variants.{Accepted, Refused}
-use Rattle.chain.specs.Events.{accepted, refused, counted, judged, eventOf}
+use native.Mathlib.Omega.{arith}
+use Rattle.decide.specs.Look.{lookOf}
+use Rattle.decide.specs.declared.Change.{Change}
+use Rattle.decide.specs.declared.Look.{Look}
+use Rattle.chain.proofs.Judged.{seen-asked, is-accepted, is-refused}
+use Rattle.chain.specs.Events.{accepted, refused, eventOf}
+use Rattle.chain.specs.Seen.{seenIn}
+use Rattle.chain.specs.declared.Outcome.{Outcome}
 use Rattle.image.specs.Reading.{chainIn}
+use Rattle.image.proofs.OneToOne.{image-length}
 use Rattle.image.proofs.events.on.Statement.{statement}
 use Rattle.image.proofs.events.on.Tie as tie
 
-verdict-on-requires : tie.Need-verdict-on-requires
-verdict-on-requires c κs = search needs
+response-in-requires : tie.Need-response-in-requires
+response-in-requires c κs = omega (arith, image-length (c .before .before .args .image .now) (c .before .before .pre .0))
+
+of-requires : tie.Need-of-requires
+of-requires c κs = search needs
+
+seen-in-requires : tie.Need-seen-in-requires
+seen-in-requires c κs = search needs
+
+verdict-requires : tie.Need-verdict-requires
+verdict-requires c κs = search needs
 
 enum-told : tie.Need-enum-told
 enum-told c = search needs
 
-happens-requires : tie.Need-happens-requires
-happens-requires c κs = (c .before .before .before .before .before .before .pre .0, sym (c .before .before .before .verdict-on .ensures) ∙ c .before .enum-told .given .1)
+change-requires : tie.Need-change-requires
+unfolding chainIn
+change-requires c κs = (seen-asked (c .before .before .before .before .before .before .before .before .before .args .e) (chainIn (c .before .before .before .before .before .before .before .before .before .args .image .now)) _ (c .before .before .before .before .seen-in .ensures ∙ ap (λ (look : Look). seenIn look (chainIn (c .before .before .before .before .before .before .before .before .before .args .image .now))) (c .before .before .before .before .before .of .ensures ∙ ap (lookOf (c .before .before .before .before .before .before .before .before .before .args .e)) (c .before .before .before .before .before .before .response-in .ensures))) (c .before .before .before .before .before .before .before .before .before .pre .1), (sym (c .before .before .before .verdict .ensures) ∙ c .before .enum-told .given .1))
 
-count-event-requires : tie.Need-count-event-requires
-count-event-requires c κs = search needs
+accept-requires : tie.Need-accept-requires
+accept-requires c κs = search needs
 
-enum-known-verdict : tie.Need-enum-known-verdict
-enum-known-verdict c = search needs
+enum-known-judged : tie.Need-enum-known-judged
+enum-known-judged c = search needs
 
 same-length : tie.Need-same-length
 same-length c = search needs
 
 returns : tie.Need-returns
-unfolding eventOf judged accepted
-returns c =
-    let is : eventOf (c .before .before .before .before .before .before .before .before .before .before .before .before .before .args .e) (chainIn (c .before .before .before .before .before .before .before .before .before .before .before .before .before .args .image .now)) ≡ judged Accepted (c .before .before .before .before .before .before .before .before .before .before .before .before .before .args .e) (chainIn (c .before .before .before .before .before .before .before .before .before .before .before .before .before .args .image .now)) = ap (λ v. judged v (c .before .before .before .before .before .before .before .before .before .before .before .before .before .args .e) (chainIn (c .before .before .before .before .before .before .before .before .before .before .before .before .before .args .image .now))) (sym (c .before .before .before .before .before .before .before .before .before .before .verdict-on .ensures) ∙ c .before .before .before .before .before .before .before .before .enum-told .given .1) in
-    (c .before .before .before .before .before .before .happens .ensures .0 ∙ sym (ap (λ o. o .answer) is), (c .before .before .count-event .ensures .0, c .before .before .count-event .ensures .1 ∙ ap counted (c .before .before .before .before .before .before .happens .ensures .1 .1) ∙ sym (ap (λ o. o .chain) is)))
+unfolding chainIn
+returns c = 
+    let is : eventOf (c .before .before .before .before .before .before .before .before .before .before .before .before .before .args .e) (chainIn (c .before .before .before .before .before .before .before .before .before .before .before .before .before .args .image .now)) ≡ accepted (c .before .before .before .change .result) (chainIn (c .before .before .before .before .before .before .before .before .before .before .before .before .before .args .image .now)) =
+    is-accepted (c .before .before .before .before .before .before .before .before .before .before .before .before .before .args .e) (chainIn (c .before .before .before .before .before .before .before .before .before .before .before .before .before .args .image .now)) _ (c .before .before .before .before .before .before .before .before .seen-in .ensures ∙ ap (λ (look : Look). seenIn look (chainIn (c .before .before .before .before .before .before .before .before .before .before .before .before .before .args .image .now))) (c .before .before .before .before .before .before .before .before .before .of .ensures ∙ ap (lookOf (c .before .before .before .before .before .before .before .before .before .before .before .before .before .args .e)) (c .before .before .before .before .before .before .before .before .before .before .response-in .ensures))) (c .before .before .before .before .before .before .before .before .before .before .before .before .before .pre .1) (sym (c .before .before .before .before .before .before .before .verdict .ensures) ∙ c .before .before .before .before .before .enum-told .given .1) ∙ ap (λ (d : Change). accepted d (chainIn (c .before .before .before .before .before .before .before .before .before .before .before .before .before .args .image .now))) (sym (c .before .before .before .change .ensures)) in
+    (c .before .before .accept .ensures .0 ∙ ap (λ (o : Outcome). o .answer) (sym is), (c .before .before .accept .ensures .1 .0, c .before .before .accept .ensures .1 .1 ∙ ap (λ (o : Outcome). o .chain) (sym is)))
 
 same-length-2 : tie.Need-same-length-2
 same-length-2 c = search needs
 
 returns-2 : tie.Need-returns-2
-unfolding eventOf judged refused
-returns-2 c =
-    let is : eventOf (c .before .before .before .before .before .before .args .e) (chainIn (c .before .before .before .before .before .before .args .image .now)) ≡ judged (Refused (c .before .verdict .given .0 .0)) (c .before .before .before .before .before .before .args .e) (chainIn (c .before .before .before .before .before .before .args .image .now)) = ap (λ v. judged v (c .before .before .before .before .before .before .args .e) (chainIn (c .before .before .before .before .before .before .args .image .now))) (sym (c .before .before .before .verdict-on .ensures) ∙ c .before .verdict .given .1) in
-    (sym (ap (λ o. o .answer) is), (c .before .before .before .before .before .before .pre .0, sym (ap (λ o. o .chain) is)))
+unfolding chainIn refused
+returns-2 c = 
+    let is = is-refused (c .before .before .before .before .before .before .before .before .before .args .e) (chainIn (c .before .before .before .before .before .before .before .before .before .args .image .now)) _ _ (c .before .before .before .before .seen-in .ensures ∙ ap (λ (look : Look). seenIn look (chainIn (c .before .before .before .before .before .before .before .before .before .args .image .now))) (c .before .before .before .before .before .of .ensures ∙ ap (lookOf (c .before .before .before .before .before .before .before .before .before .args .e)) (c .before .before .before .before .before .before .response-in .ensures))) (c .before .before .before .before .before .before .before .before .before .pre .1) (sym (c .before .before .before .verdict .ensures) ∙ c .before .judged .given .1) in
+    (ap (λ (o : Outcome). o .answer) (sym is), (c .before .before .before .before .before .before .before .before .before .pre .0, ap (λ (o : Outcome). o .chain) (sym is)))
 
 pub on-spec : {M : Type 1} → statement M
 on-spec =
     tie.close
     (tie.spec
-    verdict-on-requires
+    response-in-requires
+    of-requires
+    seen-in-requires
+    verdict-requires
     enum-told
-    happens-requires
-    count-event-requires
-    enum-known-verdict
+    change-requires
+    accept-requires
+    enum-known-judged
     same-length
     returns
     same-length-2

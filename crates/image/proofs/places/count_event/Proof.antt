@@ -6,7 +6,7 @@ use Prim.Native.Nat.{ℕ, _+_, _%_, _/_}
 use native.Mathlib.Omega.{arith}
 use lib.ListN.{set, length-set}
 use borrow.Author.Needs.{needs}
-use Rattle.chain.specs.Events.{counted}
+use Rattle.chain.specs.Apply.{counted}
 use Rattle.image.specs.Reading.{chainIn, isImage}
 use Rattle.image.proofs.OneToOne.{image-length}
 use Rattle.image.proofs.Parts.{event-set}

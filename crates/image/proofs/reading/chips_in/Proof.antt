@@ -9,7 +9,7 @@ use native.Mathlib.Omega.{arith}
 use lib.ListN.{length, getD, set, drop, replicate, length-drop}
 use lib.Seq.{paste, paste-zero, paste-suc, take-all, drop-drop}
 use borrow.Author.Needs.{needs}
-use Rattle.chip.specs.Fields.{noChip}
+use Rattle.chip.specs.Fields.{zeroChip}
 use Rattle.chip.specs.declared.Chip.{Chip}
 use Rattle.image.specs.Reading.{chipIn, chipsIn}
 use Rattle.image.proofs.Lists.{paste-all}
@@ -64,15 +64,15 @@ loop-again c =
     let i : ℕ = c .before .before .before .loop .i in
     let b : List ℕ = c .before .before .before .before .before .before .args .image .now in
     let all : List Chip = chipsIn 8 (drop 16 b) in
-    let here : c .chip-in .result ≡ getD all i noChip =
+    let here : c .chip-in .result ≡ getD all i zeroChip =
     c .chip-in .ensures
     ∙ ap chipIn (take-all (length b - (16 + 64 * i)) (drop (16 + 64 * i) b) (omega (arith, length-drop (16 + 64 * i) b)))
     ∙ ap chipIn (sym (drop-drop (64 * i) 16 b))
-    ∙ sym (chips-at 8 (drop 16 b) i noChip (c .before .before .loop-test .taken)) in (
+    ∙ sym (chips-at 8 (drop 16 b) i zeroChip (c .before .before .loop-test .taken)) in (
       omega arith,
       ap₂ (λ chips new. set chips i new) (c .before .before .before .loop .inv .1) here
-          ∙ ap (λ (n : ℕ). set (paste (replicate 8 (c .before .before .before .before .zero .result)) 0 all i) n (getD all i noChip)) (sym (zero-add i))
-          ∙ paste-suc (replicate 8 (c .before .before .before .before .zero .result)) 0 all i noChip (omega arith) (omega (arith, chips-length 8 (drop 16 b)))
+          ∙ ap (λ (n : ℕ). set (paste (replicate 8 (c .before .before .before .before .zero .result)) 0 all i) n (getD all i zeroChip)) (sym (zero-add i))
+          ∙ paste-suc (replicate 8 (c .before .before .before .before .zero .result)) 0 all i zeroChip (omega arith) (omega (arith, chips-length 8 (drop 16 b)))
           ∙ ap (paste (replicate 8 (c .before .before .before .before .zero .result)) 0 all) (sym (add-one i)),
     )
 

@@ -8,7 +8,7 @@ use lib.ListN.{getD, length-take, length-drop, length-map, length, take, drop}
 use lib.Seq.{take-at, take-all}
 use borrow.Rule.Slice.PartMut.{putMid}
 use borrow.Author.Needs.{needs}
-use Rattle.chip.specs.Fields.{noChip}
+use Rattle.chip.proofs.Past.{noChip}
 use Rattle.chip.specs.declared.Chip.{Chip}
 use Rattle.image.specs.Layout.{chipRecord, head, records, imageOf, over}
 use Rattle.image.proofs.Lists.{part-over, length-over}
