@@ -1,8 +1,8 @@
 -- One name for the rules of a chip: a proof that says `unfolding chipRules` computes with all of them; and one for its fields alone.
 -- Assumes nothing.
+use Rattle.order.specs.Order.{firstIn}
 use Rattle.search.specs.Candidate.{candidate, candidateIn}
 use Rattle.search.specs.Clear.{clearHighest, clearFirst}
-use Rattle.search.specs.Order.{firstIn}
 use Rattle.chip.specs.Acknowledge.{answered, finished}
 use Rattle.chip.specs.Command.{obey, commanded}
 use Rattle.chip.specs.Data.{written}
