@@ -2,7 +2,7 @@
 ghost use mathlib.Core.Bool.{true, false};
 ghost use mathlib.Core.Path.{_≡_};
 ghost use Prim.Native.Nat.{_<_};
-ghost use Rattle.chip.specs.Data.{byteCount, memoryPlace, hasNoDestination, isPastItsCount, written, dataRead};
+ghost use Rattle.chip.specs.Data.{byteCount, memoryPlace, hasNoDestination, isPastItsCount, dataWritten, dataRead};
 ghost use Rattle.chip.specs.Sound.{chipSound};
 ghost use Rattle.chip.specs.declared.Destination.the-variants.{Level};
 use crate::Chip;
@@ -66,7 +66,7 @@ impl Chip {
     pub fn data(mut self, byte: u8) -> Chip
         requires { ⌜ chipSound self ≡ true ⌝ }
         requires { ⌜ isPastItsCount (self .counts) (self .destination) ≡ false ⌝ }
-        ensures { λ r. ⌜ r ≡ written (self .destination) byte self ⌝ }
+        ensures { λ r. ⌜ r ≡ dataWritten (self .destination) byte self ⌝ }
     {
         let destination = self.destination;
         match destination {
@@ -87,7 +87,7 @@ impl Chip {
     fn at_level(mut self, level: u8, place: u8, byte: u8) -> Chip
         requires { ⌜ level < 8 ⌝ }
         requires { ⌜ place < 4 ⌝ }
-        ensures { λ r. ⌜ r ≡ written (Level level place) byte self ⌝ }
+        ensures { λ r. ⌜ r ≡ dataWritten (Level level place) byte self ⌝ }
     {
         let at = memory_place(level, place);
         self.memory[at] = byte;
