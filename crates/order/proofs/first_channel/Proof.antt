@@ -4,7 +4,7 @@ use native.Mathlib.Omega.{arith}
 use lib.Dec.{lit<}
 use borrow.Author.Needs.{needs}
 use borrow.Author.Tests.{ne-eqb}
-use Rattle.order.proofs.Order.{zeros-lt, first-turned}
+use Rattle.order.proofs.Turned.{zeros-lt, first-turned}
 use Rattle.order.proofs.first_channel.Statement.{statement}
 use Rattle.order.proofs.first_channel.Tie as tie
 
