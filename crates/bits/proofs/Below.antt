@@ -2,10 +2,10 @@
 -- Assumes nothing.
 use mathlib.Core.Path.{_≡_, refl, ap, ap₂, sym, subst, _∙_}
 use mathlib.Core.Logic.{⊎-elim}
-use mathlib.Core.Bool.{Bool, true, false, cond, _&&_, Bool·beq, false≢true}
+use mathlib.Core.Bool.{Bool, true, false, cond, not, _&&_, _||_, Bool·beq, false≢true}
 use Prim.Native.Nat.{ℕ, zero, suc, _+_, _≤_, _<_, zero-le, suc-le-suc}
 use native.Mathlib.Nat.{le-of-suc-le-suc, not-suc-le-zero, eq-or-lt-of-le, zero-lt-suc, le-refl, le-step}
-use lib.Dec.{T, lit<, ltb, leb·suc-suc}
+use lib.Dec.{T, ltb, lit<, leb·zero, leb·suc-zero, leb·suc-suc}
 use borrow.Author.Tests.{lt-ltb}
 use Rattle.bits.specs.Below.{digit, howMany, every, first}
 
@@ -143,3 +143,28 @@ first-more (suc n) f = by (f 0) (first-more n (λ i. f (suc i)))
         ap suc later
         ∙ pushed (ltb rest n) (f (suc n))
         ∙ ap (λ (found : Bool). cond found (suc rest) (cond (f (suc n)) (suc n) (suc (suc n)))) (sym (leb·suc-suc (suc rest) n))
+
+-- Two tests in one search: the first that passes the one stands ahead of the first that passes the other exactly if the first that passes
+-- either exists and does not pass the other
+pub first-ahead : (n : ℕ) (f g : ℕ → Bool)
+    → ltb (first n f) (first n g) ≡ ltb (first n (λ i. f i || g i)) n && not (g (first n (λ i. f i || g i)))
+first-ahead zero f g = refl
+first-ahead (suc n) f g = by (f 0) (g 0) _ _ _ refl (first-ahead n (λ i. f (suc i)) (λ i. g (suc i)))
+  where
+    by : (a b : Bool) (i j k : ℕ) → g 0 ≡ b → ltb i j ≡ ltb k n && not (g (suc k))
+        → ltb (cond a 0 (suc i)) (cond b 0 (suc j)) ≡ ltb (cond (a || b) 0 (suc k)) (suc n) && not (g (cond (a || b) 0 (suc k)))
+    by true true i j k is later = simp (is, leb·suc-suc 0 n, leb·zero n)
+    by true false i j k is later = simp (is, leb·suc-suc 0 j, leb·zero j, leb·suc-suc 0 n, leb·zero n)
+    by false true i j k is later = simp (is, leb·suc-zero (suc i), leb·suc-suc 0 n, leb·zero n)
+    by false false i j k is later = rw (leb·suc-suc (suc i) j) (rw (leb·suc-suc (suc k) n) later)
+
+-- and then it is the first that passes either
+pub first-either : (n : ℕ) (f g : ℕ → Bool) → ltb (first n f) (first n g) ≡ true → first n f ≡ first n (λ i. f i || g i)
+first-either zero f g ahead = refl
+first-either (suc n) f g ahead = by (f 0) (g 0) _ _ _ (first-either n (λ i. f (suc i)) (λ i. g (suc i))) ahead
+  where
+    by : (a b : Bool) (i j k : ℕ) → (ltb i j ≡ true → i ≡ k) → ltb (cond a 0 (suc i)) (cond b 0 (suc j)) ≡ true
+        → cond a 0 (suc i) ≡ cond (a || b) 0 (suc k)
+    by true b i j k later ahead = refl
+    by false true i j k later ahead = absurd (false≢true (sym (leb·suc-zero (suc i)) ∙ ahead))
+    by false false i j k later ahead = ap suc (later (sym (leb·suc-suc (suc i) j) ∙ ahead))

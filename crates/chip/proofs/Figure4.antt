@@ -13,14 +13,31 @@ use Rattle.chip.specs.declared.Command.{Command}
 use Rattle.chip.specs.declared.Command.the-variants.{Reset, ClearIrrAndImr, ClearIrrAndImrBit, ClearImr, ClearImrBit, SetImr, SetImrBit, ClearIrr, ClearIrrBit, SetIrr, SetIrrBit, ClearHighestIsr, ClearIsr, ClearIsrBit, LoadMode, LoadRead, LoadReadAndArm, LoadReadAndDisarm, PreselectImr, PreselectAcr, PreselectLevel}
 use Rattle.chip.specs.declared.Meaning.{Meaning}
 use Rattle.chip.specs.declared.Meaning.the-variants.{Row, Undefined}
+use Rattle.chip.specs.declared.Undefined as kinds
+use Rattle.chip.specs.declared.Undefined.the-variants.{Codes01To0F, Codes1010xx11, CodesD0ToDF}
 
 -- codes 01 to 0F hex, 1010xx11 binary, and D0 to DF hex
+abbrev pub namedAs : kinds.Undefined → ℕ → Bool
+namedAs Codes01To0F code = leb 0x01 code && leb code 0x0F
+namedAs Codes1010xx11 code = eqb (code / 16) 0b1010 && eqb (code % 4) 0b11
+namedAs CodesD0ToDF code = leb 0xD0 code && leb code 0xDF
+
 abbrev pub namedUndefined : ℕ → Bool
-namedUndefined code = leb 0x01 code && leb code 0x0F || eqb (code / 16) 0b1010 && eqb (code % 4) 0b11 || leb 0xD0 code && leb code 0xDF
+namedUndefined code = namedAs Codes01To0F code || namedAs Codes1010xx11 code || namedAs CodesD0ToDF code
 
 pub undefined-codes : (code : ℕ) → code < 256 → undefined (figure4 code) ≡ namedUndefined code
 unfolding figure4
 undefined-codes code h = tested 256 (λ code. undefined (figure4 code)) namedUndefined tt code h
+
+-- each is told as what it is
+abbrev rightly : Meaning → ℕ → Bool
+rightly (Row row) code = true
+rightly (Undefined kind) code = namedAs kind code
+
+pub undefined-kind : (code : ℕ) (kind : kinds.Undefined) → code < 256 → figure4 code ≡ Undefined kind → namedAs kind code ≡ true
+unfolding figure4
+undefined-kind code kind h e =
+    ap (λ (m : Meaning). rightly m code) (sym e) ∙ tested 256 (λ code. rightly (figure4 code) code) (λ code. true) tt code h
 
 -- the numbers of a row have the widths of its bits in the figure: B2 B1 B0, M4 to M0, M6 M5, BY1 BY0 and L2 L1 L0
 abbrev pub rowFits : Command → Bool
@@ -81,7 +98,7 @@ level-row : (code : ℕ) → rowFits (PreselectLevel (code / 8 % 4) (code % 8)) 
 level-row code = simp (below (code / 8) 4 (lit< tt), one code)
 
 -- What holds of every row with numbers of these widths, and of the reset's for a code that is the reset's, holds of what the figure gives for any code.
-module _ (Q : Meaning → Bool) (none : Q Undefined ≡ true)
+module _ (Q : Meaning → Bool) (none : (kind : kinds.Undefined) → Q (Undefined kind) ≡ true)
     (each-row : (row : Command) → rowFits row ≡ true → isResetRow row ≡ false → Q (Row row) ≡ true)
   where
     or-else : (b : Bool) (x y : Meaning) → (b ≡ true → Q x ≡ true) → Q y ≡ true → Q (cond b x y) ≡ true
@@ -95,12 +112,12 @@ module _ (Q : Meaning → Bool) (none : Q Undefined ≡ true)
         or-else (eqb low 0b00) _ _ (λ _. each-row (LoadRead m) e refl)
         (or-else (eqb low 0b01) _ _ (λ _. each-row (LoadReadAndArm m) e refl)
         (or-else (eqb low 0b10) _ _ (λ _. each-row (LoadReadAndDisarm m) e refl)
-        none))
+        (none Codes1010xx11)))
 
     in-figure : (high code : ℕ) → (isReset code ≡ true → Q (Row Reset) ≡ true) → Q (rowIn high code) ≡ true
     in-figure high code reset =
         let single : ltb (code % 8) 8 ≡ true = one code in
-        or-else (eqb high 0x0) _ _ (λ _. or-else (isReset code) _ _ reset none)
+        or-else (eqb high 0x0) _ _ (λ _. or-else (isReset code) _ _ reset (none Codes01To0F))
         (or-else (eqb high 0x1) _ _ (λ _. all-or-one code _ _ (each-row ClearIrrAndImr refl refl) (each-row (ClearIrrAndImrBit (code % 8)) single refl))
         (or-else (eqb high 0x2) _ _ (λ _. all-or-one code _ _ (each-row ClearImr refl refl) (each-row (ClearImrBit (code % 8)) single refl))
         (or-else (eqb high 0x3) _ _ (λ _. all-or-one code _ _ (each-row SetImr refl refl) (each-row (SetImrBit (code % 8)) single refl))
@@ -112,16 +129,16 @@ module _ (Q : Meaning → Bool) (none : Q Undefined ≡ true)
         (or-else (eqb high 0xA) _ _ (λ _. load-read (code / 4 % 4) (code % 4) (below (code / 4) 4 (lit< tt)))
         (or-else (eqb high 0xB) _ _ (λ _. each-row PreselectImr refl refl)
         (or-else (eqb high 0xC) _ _ (λ _. each-row PreselectAcr refl refl)
-        (or-else (eqb high 0xD) _ _ (λ _. none)
+        (or-else (eqb high 0xD) _ _ (λ _. none CodesD0ToDF)
         (each-row (PreselectLevel (code / 8 % 4) (code % 8)) (level-row code) refl)))))))))))))
 
 abbrev fits : Meaning → Bool
 fits (Row row) = rowFits row
-fits Undefined = true
+fits (Undefined kind) = true
 
 pub row-fits : (code : ℕ) (row : Command) → figure4 code ≡ Row row → rowFits row ≡ true
 unfolding figure4
-row-fits code row e = ap fits (sym e) ∙ in-figure fits refl (λ row fit other. fit) (code / 16) code (λ _. refl)
+row-fits code row e = ap fits (sym e) ∙ in-figure fits (λ kind. refl) (λ row fit other. fit) (code / 16) code (λ _. refl)
 
 -- so a remainder by the width of a row's one number leaves it as it is
 pub row-narrow : (kind : ℕ → Command) (width : ℕ) → ((m : ℕ) → rowFits (kind m) ≡ ltb m width)
@@ -138,11 +155,11 @@ preselected code count level row e is =
 
 abbrev isNoReset : Meaning → Bool
 isNoReset (Row row) = not (isResetRow row)
-isNoReset Undefined = true
+isNoReset (Undefined kind) = true
 
 -- no code but its own gives the reset's row
 pub no-reset : (code : ℕ) (row : Command) → figure4 code ≡ Row row → isReset code ≡ false → isResetRow row ≡ false
 unfolding figure4
 no-reset code row e other =
     not-true (isResetRow row)
-    (ap isNoReset (sym e) ∙ in-figure isNoReset refl (λ row fit is. ap not is) (code / 16) code (λ is. absurd (false≢true (sym other ∙ is))))
+    (ap isNoReset (sym e) ∙ in-figure isNoReset (λ kind. refl) (λ row fit is. ap not is) (code / 16) code (λ is. absurd (false≢true (sym other ∙ is))))

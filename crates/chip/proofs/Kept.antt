@@ -15,7 +15,7 @@ use Rattle.bits.proofs.Below.{both-left, both-right, every-each, every-all}
 use Rattle.bits.proofs.Stored.{stored}
 use Rattle.chip.specs.Acknowledge.{answered, finished}
 use Rattle.chip.specs.Command.{obey, commanded}
-use Rattle.chip.specs.Data.{isPastItsCount, written}
+use Rattle.chip.specs.Data.{isPastItsCount, dataWritten}
 use Rattle.chip.specs.Fields.{withIsr}
 use Rattle.chip.specs.Line.{lineSet}
 use Rattle.chip.specs.Reset.{reset, powerUp}
@@ -80,15 +80,15 @@ next-le c level place is left e =
     let below : place < 4 = place-lt c level place e is (ap (isPastItsCount (c .counts)) is ∙ left) in
     omega arith
 
-written-to : (d : Destination) (byte : ℕ) (c : Chip) → c .destination ≡ d → isPastItsCount (c .counts) d ≡ false → chipSound c ≡ true → chipSound (written d byte c) ≡ true
-unfolding chipSound chipFields written
+written-to : (d : Destination) (byte : ℕ) (c : Chip) → c .destination ≡ d → isPastItsCount (c .counts) d ≡ false → chipSound c ≡ true → chipSound (dataWritten d byte c) ≡ true
+unfolding chipSound chipFields dataWritten
 written-to Nowhere byte c is left e = e
 written-to Imr byte c is left e = e
 written-to Acr byte c is left e = e
 written-to (Level level place) byte c is left e =
     elsewhere c (Level level (place + 1)) (simp (le-leb level 7 (level-le c level place e is), le-leb (place + 1) 4 (next-le c level place is left e))) e
 
-pub written-kept : (byte : ℕ) (c : Chip) → isPastItsCount (c .counts) (c .destination) ≡ false → chipSound c ≡ true → chipSound (written (c .destination) byte c) ≡ true
+pub written-kept : (byte : ℕ) (c : Chip) → isPastItsCount (c .counts) (c .destination) ≡ false → chipSound c ≡ true → chipSound (dataWritten (c .destination) byte c) ≡ true
 written-kept byte c left e = written-to (c .destination) byte c refl left e
 
 -- a line level

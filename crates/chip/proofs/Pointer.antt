@@ -6,7 +6,7 @@ use Prim.Native.Nat.{ℕ}
 use Rattle.bits.specs.Byte.{bit, withoutBit}
 use Rattle.chip.specs.Acknowledge.{answered, finished}
 use Rattle.chip.specs.Command.{obey, commanded}
-use Rattle.chip.specs.Data.{written}
+use Rattle.chip.specs.Data.{dataWritten}
 use Rattle.chip.specs.Fields.{withIsr}
 use Rattle.chip.specs.Figure4.{figure4, isReset}
 use Rattle.chip.specs.Line.{lineSet}
@@ -53,14 +53,14 @@ row-pointer (PreselectLevel count level) code c e = refl
 meaning-pointer : (meaning : Meaning) (code : ℕ) (c : Chip) → figure4 code ≡ meaning → isReset code ≡ false → commanded meaning code c .pointer ≡ c .pointer
 unfolding commanded
 meaning-pointer (Row row) code c is other = row-pointer row code c (no-reset code row is other)
-meaning-pointer Undefined code c is other = refl
+meaning-pointer (Undefined kind) code c is other = refl
 
 pub commanded-pointer : (code : ℕ) (c : Chip) → isReset code ≡ false → commanded (figure4 code) code c .pointer ≡ c .pointer
 commanded-pointer code c other = meaning-pointer (figure4 code) code c refl other
 
 -- a data write, a line and the end of a response leave it
-pub written-pointer : (d : Destination) (byte : ℕ) (c : Chip) → written d byte c .pointer ≡ c .pointer
-unfolding chipFields written
+pub written-pointer : (d : Destination) (byte : ℕ) (c : Chip) → dataWritten d byte c .pointer ≡ c .pointer
+unfolding chipFields dataWritten
 written-pointer Nowhere byte c = refl
 written-pointer Imr byte c = refl
 written-pointer Acr byte c = refl

@@ -38,4 +38,4 @@ obey (PreselectLevel count level) c = withCounts (set (c .counts) level count) (
 -- a command write: it ends the earlier destination (D), the code becomes the last command, and its row is carried out
 unfoldable pub commanded : Meaning → ℕ → Chip → Chip
 commanded (Row row) code c = obey row (withCommand code (withDestination Nowhere c))
-commanded Undefined code c = c
+commanded (Undefined kind) code c = c

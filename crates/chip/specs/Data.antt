@@ -33,11 +33,11 @@ isPastItsCount counts Acr = false
 isPastItsCount counts (Level level place) = leb (byteCount counts level) place
 
 -- a data write: IMR and ACR may be written repeatedly; a level takes the byte at its next place
-unfoldable pub written : Destination → ℕ → Chip → Chip
-written Nowhere byte c = c
-written Imr byte c = withImr byte c
-written Acr byte c = withAcr byte c
-written (Level level place) byte c =
+unfoldable pub dataWritten : Destination → ℕ → Chip → Chip
+dataWritten Nowhere byte c = c
+dataWritten Imr byte c = withImr byte c
+dataWritten Acr byte c = withAcr byte c
+dataWritten (Level level place) byte c =
     withMemory (set (c .memory) (memoryPlace level place) byte) (withDestination (Level level (place + 1)) c)
 
 -- a data read, by M6 M5: 00 ISR, 01 IMR, 10 IRR, 11 ACR

@@ -1,6 +1,9 @@
 // What an acknowledge does inside the chip that answers.
+ghost use mathlib.Core.Bool.{true};
 ghost use mathlib.Core.Path.{_≡_};
-ghost use Rattle.chip.specs.Acknowledge.{answered, responseLevel, responseByte, finished};
+ghost use Prim.Native.Nat.{_<_};
+ghost use Rattle.chip.specs.Acknowledge.{answered, responseLevel, responseLength, responseByte, finished};
+ghost use Rattle.chip.specs.Sound.{chipSound};
 use crate::Chip;
 use crate::data::memory_place;
 
@@ -26,12 +29,24 @@ impl Chip {
         }
     }
 
-    // The byte that the chip drives at a pulse; past the memory there is none.
+    // Its length: the byte count of the answered channel.
+    pub fn response_length(self, channel: u8) -> u8
+        requires { ⌜ chipSound self ≡ true ⌝ }
+        requires { ⌜ channel < 8 ⌝ }
+        ensures { λ r. ⌜ r ≡ responseLength self channel ⌝ }
+    {
+        self.byte_count(channel)
+    }
+
+    // The byte that the chip drives at a pulse; what lies past the memory is 0.
     pub fn response_byte(self, level: u8, place: u8) -> u8
         ensures { λ r. ⌜ r ≡ responseByte self level place ⌝ }
     {
         let at = memory_place(level, place);
-        if at < 32 { self.memory[at] } else { 0 }
+        if at >= 32 {
+            return 0;
+        }
+        self.memory[at]
     }
 
     // The response of a channel is over: its ISR bit clears if its ACR bit is then set.

@@ -3,7 +3,7 @@ ghost use mathlib.Core.Bool.{true, false};
 ghost use mathlib.Core.Path.{_≡_};
 ghost use Prim.Native.Nat.{_<_};
 ghost use lib.ListN.{getD, set};
-ghost use Rattle.chip.specs.Data.{byteCount, memoryPlace, hasNoDestination, isPastItsCount, written, dataRead};
+ghost use Rattle.chip.specs.Data.{byteCount, memoryPlace, hasNoDestination, isPastItsCount, dataWritten, dataRead};
 ghost use Rattle.chip.specs.Sound.{chipSound};
 ghost use Rattle.chip.specs.declared.Destination.the-variants.{Level};
 use crate::Chip;
@@ -84,7 +84,7 @@ impl Chip {
     // A data write: IMR and ACR may be written repeatedly; a level takes the byte at its next place.
     pub fn data(mut self, byte: u8) -> Chip
         requires { ⌜ chipSound self ≡ true ⌝ }
-        ensures { λ r. ⌜ r ≡ written (self .destination) byte self ⌝ }
+        ensures { λ r. ⌜ r ≡ dataWritten (self .destination) byte self ⌝ }
     {
         let destination = self.destination;
         match destination {
@@ -104,7 +104,7 @@ impl Chip {
     // The byte at a place of a level, and the place moved on.
     fn at_level(mut self, level: u8, place: u8, byte: u8) -> Chip
         requires { ⌜ place < 255 ⌝ }
-        ensures { λ r. ⌜ r ≡ written (Level level place) byte self ⌝ }
+        ensures { λ r. ⌜ r ≡ dataWritten (Level level place) byte self ⌝ }
     {
         let memory = self.memory;
         let after = stored(memory, memory_place(level, place), byte);

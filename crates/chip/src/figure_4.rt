@@ -1,11 +1,9 @@
 // Figure 4 of the data sheet: what a command code means.
-ghost use mathlib.Core.Bool.{cond};
 ghost use mathlib.Core.Path.{_≡_};
-ghost use Rattle.chip.specs.Figure4.{figure4, isReset, allOrOne, loadRead, undefined};
-ghost use Rattle.chip.specs.declared.Command.the-variants.{Reset};
-ghost use Rattle.chip.specs.declared.Meaning.the-variants.{Row, Undefined};
+ghost use Rattle.chip.specs.Figure4.{figure4, isReset, resetOrUndefined, allOrOne, loadRead, undefined};
 use crate::Command;
 use crate::Meaning;
+use crate::Undefined;
 
 impl Meaning {
     // The row of a code, by its high hexadecimal digit.
@@ -32,7 +30,7 @@ impl Meaning {
             0xA => Meaning::load_read(code / 4 % 4, code % 4),
             0xB => Meaning::Row(Command::PreselectImr),
             0xC => Meaning::Row(Command::PreselectAcr),
-            0xD => Meaning::Undefined,
+            0xD => Meaning::Undefined(Undefined::CodesD0ToDF),
             _ => Meaning::Row(Command::PreselectLevel(code / 8 % 4, k)),
         }
     }
@@ -46,12 +44,12 @@ impl Meaning {
 
     // 00 is the reset; 01 to 0F are undefined.
     fn reset_or_undefined(code: u8) -> Meaning
-        ensures { λ r. ⌜ r ≡ cond (isReset code) (Row Reset) Undefined ⌝ }
+        ensures { λ r. ⌜ r ≡ resetOrUndefined code ⌝ }
     {
         if Meaning::is_reset(code) {
             Meaning::Row(Command::Reset)
         } else {
-            Meaning::Undefined
+            Meaning::Undefined(Undefined::Codes01To0F)
         }
     }
 
@@ -74,7 +72,7 @@ impl Meaning {
             0 => Meaning::Row(Command::LoadRead(m)),
             1 => Meaning::Row(Command::LoadReadAndArm(m)),
             2 => Meaning::Row(Command::LoadReadAndDisarm(m)),
-            _ => Meaning::Undefined,
+            _ => Meaning::Undefined(Undefined::Codes1010xx11),
         }
     }
 
@@ -84,7 +82,7 @@ impl Meaning {
     {
         match self {
             Meaning::Row(_) => false,
-            Meaning::Undefined => true,
+            Meaning::Undefined(_) => true,
         }
     }
 }

@@ -62,8 +62,15 @@ pub enum Command {
     PreselectLevel(u8, u8),
 }
 
+// The undefined codes, which are of three kinds: 01 to 0F hex, 1010xx11 binary, and D0 to DF hex.
+pub enum Undefined {
+    Codes01To0F,
+    Codes1010xx11,
+    CodesD0ToDF,
+}
+
 // What a command code means: a row of Figure 4, or nothing.
 pub enum Meaning {
     Row(Command),
-    Undefined,
+    Undefined(Undefined),
 }

@@ -49,7 +49,7 @@ put v c ec ei er e =
 commanded-chip : (meaning : Meaning) (code : ℕ) (c : Chip) → figure4 code ≡ meaning → chipSound c ≡ true → chipSound (commanded meaning code c) ≡ true
 unfolding commanded
 commanded-chip (Row row) code c is e = commanded-kept row code c (row-fits code row is) e
-commanded-chip Undefined code c is e = e
+commanded-chip (Undefined kind) code c is e = e
 
 -- a first pulse: IACK is low with the first byte of a response, or none
 next : (r : Reply) → r .delivered ≡ 0 → 1 ≤ r .length → r .delivered < r .length

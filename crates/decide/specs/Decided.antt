@@ -5,7 +5,7 @@ use Rattle.refusal.specs.declared.Answer.the-variants.{Byte}
 use Rattle.event.specs.declared.Event.{Event}
 use Rattle.event.specs.declared.Event.the-variants.{Command, Data, Status, Read, Line, Enable, Fall, Rise}
 use Rattle.chip.specs.Command.{commanded}
-use Rattle.chip.specs.Data.{dataRead, written}
+use Rattle.chip.specs.Data.{dataRead, dataWritten}
 use Rattle.chip.specs.Figure4.{figure4}
 use Rattle.chip.specs.Line.{lineSet}
 use Rattle.chip.specs.Status.{statusByte}
@@ -18,7 +18,7 @@ use Rattle.decide.specs.declared.Seen.{Seen}
 unfoldable pub decided : Event → Seen → Change
 decided (Command i code) v =
     responding (afterCommand (v .at) code (v .response)) (replacing (commanded (figure4 code) code (v .chip)) (unchanged v))
-decided (Data i byte) v = replacing (written (v .chip .destination) byte (v .chip)) (unchanged v)
+decided (Data i byte) v = replacing (dataWritten (v .chip .destination) byte (v .chip)) (unchanged v)
 decided (Status i) v = answering (Byte (statusByte (v .chip) (v .ei))) (unchanged v)
 decided (Read i) v = answering (Byte (dataRead (v .chip))) (unchanged v)
 decided (Line i channel level) v = replacing (lineSet channel (eqb level 1) (v .chip)) (unchanged v)

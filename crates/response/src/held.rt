@@ -18,7 +18,7 @@ impl Reply {
         let candidate = chip.candidate();
         let channel = candidate.channel();
         let level = chip.response_level(channel);
-        let length = chip.byte_count(channel);
+        let length = chip.response_length(channel);
         Reply {
             chip: i,
             channel: channel,

@@ -10,9 +10,10 @@ use borrow.Author.Tests.{lt-ltb}
 use Rattle.bits.specs.Byte.{bit, isWaiting}
 use Rattle.bits.proofs.Below.{either, tested, first-none, first-before}
 use Rattle.search.specs.Candidate.{candidate, candidateIn, exists, channelOf}
-use Rattle.search.specs.Order.{lastOf, channelAt, firstIn, firstWaiting, fence}
+use Rattle.order.specs.Order.{channelAt, firstIn}
+use Rattle.order.proofs.Order.{channel-lt}
+use Rattle.search.specs.Order.{lastOf, firstWaiting, fence}
 use Rattle.search.specs.declared.Candidate.{Candidate}
-use Rattle.search.proofs.Order.{channel-lt}
 
 -- where an armed chip has a candidate, it is the first waiting channel of the order in force
 pub candidate-at : (irr imr isr mode pointer : ℕ) → bit mode 7 ≡ true → exists (candidate irr imr isr mode pointer) ≡ true

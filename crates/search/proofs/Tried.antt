@@ -5,7 +5,8 @@ use mathlib.Core.Path.{_≡_, refl}
 use Prim.Native.Nat.{ℕ}
 use Rattle.search.specs.Candidate.{candidate, candidateIn, searchNumber}
 use Rattle.search.specs.Clear.{clearHighest, clearFirst}
-use Rattle.search.specs.Order.{lastOf, channelAt, firstIn}
+use Rattle.order.specs.Order.{channelAt, firstIn}
+use Rattle.search.specs.Order.{lastOf}
 use Rattle.search.specs.declared.Candidate.the-variants.{Channel, Nobody}
 
 -- the order in force, as the list of its channels

@@ -3,7 +3,8 @@ use mathlib.Core.Bool.{Bool, true, false, cond}
 use Prim.Native.Nat.{ℕ}
 use lib.Dec.{ltb}
 use Rattle.bits.specs.Byte.{bit}
-use Rattle.search.specs.Order.{lastOf, channelAt, firstWaiting, fence}
+use Rattle.order.specs.Order.{channelAt}
+use Rattle.search.specs.Order.{lastOf, firstWaiting, fence}
 use Rattle.search.specs.declared.Candidate.{Candidate}
 use Rattle.search.specs.declared.Candidate.the-variants.{Channel, Nobody}
 

@@ -3,7 +3,8 @@ use mathlib.Core.Bool.{cond}
 use Prim.Native.Nat.{ℕ}
 use lib.Dec.{ltb}
 use Rattle.bits.specs.Byte.{withoutBit}
-use Rattle.search.specs.Order.{lastOf, channelAt, fence}
+use Rattle.order.specs.Order.{channelAt}
+use Rattle.search.specs.Order.{lastOf, fence}
 
 -- the first ISR bit of the order cleared
 unfoldable pub clearFirst : ℕ → ℕ → ℕ

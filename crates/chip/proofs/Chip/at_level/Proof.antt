@@ -1,7 +1,7 @@
 -- `chip::Chip::at_level` meets its contract.
 -- Assumes nothing.
 use borrow.Author.Needs.{needs}
-use Rattle.chip.specs.Data.{written}
+use Rattle.chip.specs.Data.{dataWritten}
 use Rattle.chip.proofs.Rules.{chipFields}
 use Rattle.chip.proofs.Chip.at_level.Statement.{statement}
 use Rattle.chip.proofs.Chip.at_level.Tie as tie
@@ -19,7 +19,7 @@ with-destination-requires : tie.Need-with-destination-requires
 with-destination-requires c κs = search needs
 
 returns : tie.Need-returns
-unfolding chipFields written
+unfolding chipFields dataWritten
 returns c = simp (c .with-destination .ensures, c .before .stored .ensures, c .before .before .memory-place .ensures)
 
 pub at-level-spec : {M : Type 1} → statement M

@@ -14,11 +14,11 @@ channel-requires c κs = search needs
 response-level-requires : tie.Need-response-level-requires
 response-level-requires c κs = search needs
 
-byte-count-requires : tie.Need-byte-count-requires
-byte-count-requires c κs = (c .before .before .before .pre, rw (c .before .channel .ensures, c .before .before .candidate .ensures) (candidate-lt _ _ _ _ _))
+response-length-requires : tie.Need-response-length-requires
+response-length-requires c κs = (c .before .before .before .pre, rw (c .before .channel .ensures, c .before .before .candidate .ensures) (candidate-lt _ _ _ _ _))
 
 returns : tie.Need-returns
-returns c = simp (c .byte-count .ensures, c .before .response-level .ensures, c .before .before .channel .ensures, c .before .before .before .candidate .ensures)
+returns c = simp (c .response-length .ensures, c .before .response-level .ensures, c .before .before .channel .ensures, c .before .before .before .candidate .ensures)
 
 pub of-spec : {M : Type 1} → statement M
 of-spec =
@@ -27,5 +27,5 @@ of-spec =
     candidate-requires
     channel-requires
     response-level-requires
-    byte-count-requires
+    response-length-requires
     returns)
