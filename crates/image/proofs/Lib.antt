@@ -1,7 +1,6 @@
 pub mod Formed
 pub mod Lists
 pub mod OneToOne
-pub mod Parts
 pub mod Readback
 pub mod Records
 pub mod Whole

@@ -1,9 +1,7 @@
-// The chain image: a chain as 528 bytes that a caller owns and lends, as C can hold it. Reading it, writing it, which bytes are one, and the eight events on it
-// where it lies: a run goes by these. What asks for an image or for a length is for whoever has seen that; `is_image` takes any bytes.
-mod apply;
-pub mod events;
+// The chain image: a chain as 528 bytes that a caller owns and lends, as C can hold it. Reading it, writing it, and which bytes are one.
+// What asks for a length is for whoever has seen that; `is_image` takes any bytes.
 mod form;
-mod places;
+pub mod places;
 pub mod reading;
 pub mod writing;
 

@@ -56,7 +56,7 @@ fn memory_in(r: &[u8]) -> [u8; 32]
 }
 
 // The chip whose record begins here.
-pub(crate) fn chip_in(r: &[u8]) -> Chip
+pub fn chip_in(r: &[u8]) -> Chip
     requires { ⌜ 64 ≤ length (now r) ⌝ }
     ensures { λ c. ⌜ c ≡ chipIn (now (r .entry)) ⌝ }
 {
@@ -76,7 +76,7 @@ pub(crate) fn chip_in(r: &[u8]) -> Chip
 }
 
 // The response that the head names.
-pub(crate) fn response_in(image: &[u8]) -> Response
+pub fn response_in(image: &[u8]) -> Response
     requires { ⌜ 16 ≤ length (now image) ⌝ }
     ensures { λ r. ⌜ r ≡ responseIn (now (image .entry)) ⌝ }
 {
@@ -94,7 +94,7 @@ pub(crate) fn response_in(image: &[u8]) -> Response
 }
 
 // The event number: its low byte first.
-pub(crate) fn event_of(low: u8, high: u8) -> u16
+pub fn event_of(low: u8, high: u8) -> u16
     ensures { λ r. ⌜ r ≡ low + 256 * high ⌝ }
 {
     low as u16 + 256 * high as u16

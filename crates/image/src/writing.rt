@@ -59,7 +59,7 @@ fn register_bytes(chip: Chip) -> [u8; 16]
 }
 
 // A chip record.
-pub(crate) fn put_chip(r: &mut [u8], chip: Chip)
+pub fn put_chip(r: &mut [u8], chip: Chip)
     requires { ⌜ length (now r) ≡ 64 ⌝ }
     ensures { λ _. ⌜ now (r .exit) ≡ chipRecord chip ⌝ }
 {
@@ -74,7 +74,7 @@ pub(crate) fn put_chip(r: &mut [u8], chip: Chip)
 }
 
 // A response's six bytes.
-pub(crate) fn response_bytes(response: Response) -> [u8; 6]
+pub fn response_bytes(response: Response) -> [u8; 6]
     ensures { λ r. ⌜ r ≡ responseBytes response ⌝ }
 {
     match response {

@@ -10,7 +10,7 @@ ghost use Rattle.refusal.specs.Numbers.{isAccepted};
 ghost use Rattle.run.specs.Run.{listedOutcome, noted, beforeAny, runFrom, runOf};
 use crate::list::listed_at;
 use event::Listed;
-use image::events::on;
+use in_place::on;
 use refusal::Answer;
 use refusal::Refusal;
 use refusal::Verdict;

@@ -1,0 +1,88 @@
+// What an event looks at in an image, and an image with what is decided applied where it lies.
+ghost use mathlib.Core.Bool.{true};
+ghost use mathlib.Core.Path.{_≡_};
+ghost use Rattle.chain.specs.Apply.{replacedIn, applied};
+ghost use Rattle.chain.specs.Seen.{seenAt, seenIn};
+ghost use Rattle.chain.specs.Walk.{walkedTo};
+ghost use Rattle.image.specs.Reading.{chainIn, isImage};
+use crate::places::chip_at;
+use crate::places::set_chip;
+use crate::places::set_enable;
+use crate::places::set_iack;
+use crate::places::set_response;
+use decide::Change;
+use decide::Look;
+use decide::Seen;
+use image::places::COUNT;
+use image::places::ENABLE;
+use image::places::IACK;
+use image::reading::response_in;
+use response::Walk;
+
+// The walk along the chain up to a chip.
+fn walked(image: &[u8], to: u8) -> Walk
+    requires { ⌜ isImage (now image) ≡ true ⌝ }
+    ensures { λ r. ⌜ r ≡ walkedTo (chainIn (now (image .entry))) to ⌝ }
+{
+    let response = response_in(image);
+    let mut walk = Walk::at_first(image[ENABLE] == 1);
+    for i in 0u8..to {
+        walk = walk.past(chip_at(image, i), response);
+    }
+    walk
+}
+
+// The chain's own fields, and a chip with its number and its Enable In.
+fn seen_at(image: &[u8], at: u8, ei: bool) -> Seen
+    requires { ⌜ isImage (now image) ≡ true ⌝ }
+    ensures { λ r. ⌜ r ≡ seenAt at ei (chainIn (now (image .entry))) ⌝ }
+{
+    Seen {
+        count: image[COUNT],
+        enable: image[ENABLE] == 1,
+        iack: image[IACK] == 1,
+        response: response_in(image),
+        at: at,
+        chip: chip_at(image, at),
+        ei: ei,
+    }
+}
+
+// What an event sees where it looks.
+pub(crate) fn seen_in(image: &[u8], look: Look) -> Seen
+    requires { ⌜ isImage (now image) ≡ true ⌝ }
+    ensures { λ r. ⌜ r ≡ seenIn look (chainIn (now (image .entry))) ⌝ }
+{
+    match look {
+        Look::Nowhere => seen_at(image, image[COUNT], false),
+        Look::At(i) => seen_at(image, i, false),
+        Look::AtEi(i) => seen_at(image, i, walked(image, i).ei),
+        Look::Answering => seen_at(image, walked(image, image[COUNT]).answering, false),
+    }
+}
+
+// The chip that is replaced, if one is.
+fn replace(image: &mut [u8], change: Change)
+    requires { ⌜ isImage (now image) ≡ true ⌝ }
+    ensures { λ _. ⌜ isImage (now (image .exit)) ≡ true ⌝ }
+    ensures { λ _. ⌜ chainIn (now (image .exit)) ≡ replacedIn change (chainIn (now (image .entry))) ⌝ }
+{
+    if !change.replaces {
+        return;
+    }
+    let chip = change.chip;
+    set_chip(image, change.at, chip);
+}
+
+// What is decided.
+pub(crate) fn apply(image: &mut [u8], change: Change)
+    requires { ⌜ isImage (now image) ≡ true ⌝ }
+    ensures { λ _. ⌜ isImage (now (image .exit)) ≡ true ⌝ }
+    ensures { λ _. ⌜ chainIn (now (image .exit)) ≡ applied change (chainIn (now (image .entry))) ⌝ }
+{
+    replace(image, change);
+    let response = change.response;
+    set_response(image, response);
+    set_enable(image, change.enable);
+    set_iack(image, change.iack);
+}
