@@ -1,3 +1,4 @@
+pub mod Answered
 pub mod Kept
 pub mod Passed
 pub mod Rules

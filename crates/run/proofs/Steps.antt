@@ -3,7 +3,7 @@
 -- Assumes nothing.
 use mathlib.Core.Bool.{Bool, true, false, cond}
 use mathlib.Core.List.{List}
-use mathlib.Core.Path.{_≡_, refl, sym, _∙_}
+use mathlib.Core.Path.{_≡_, refl, ap, sym, _∙_}
 use Prim.Native.Nat.{ℕ, zero, suc, _+_, _*_}
 use lib.ListN.{length, set, length-set}
 use Rattle.refusal.specs.Numbers.{isAccepted}
@@ -15,13 +15,12 @@ use Rattle.refusal.specs.Answers.{verdictIn, Handed, handed}
 use Rattle.chain.specs.Sound.{sound}
 use Rattle.chain.specs.declared.Chain.{Chain}
 use Rattle.chain.specs.declared.Outcome.{Outcome}
-use Rattle.chain.specs.Events.{answerOf, accepted, refused, judged, eventOf}
-use Rattle.chain.specs.Pulse.{selected, driven, fallAnswer}
+use Rattle.decide.proofs.Answered.{decided-tells}
+use Rattle.chain.specs.Apply.{decision}
+use Rattle.chain.specs.Events.{accepted, refused, judged, eventOf}
+use Rattle.chain.specs.Seen.{seenBy}
 use Rattle.chain.specs.Refusals.{verdictOf}
 use Rattle.event.specs.declared.Event.{Event}
-use Rattle.event.specs.declared.Event.the-variants.{Command, Data, Status, Read, Line, Enable, Fall, Rise}
-use Rattle.chain.specs.declared.Response.{Response}
-use Rattle.chain.specs.declared.Response.the-variants.{Idle, UnderWay}
 use Rattle.run.specs.List.{listedAt}
 use Rattle.run.specs.Run.{Report, listedOutcome, noted, stopped, runFrom, acceptedFrom}
 use Rattle.event.specs.declared.Listed.{Listed}
@@ -74,30 +73,10 @@ run-through bytes P stop step (suc left) n s results =
     (λ on. step n s results rest more on (run-through bytes P stop step left (n + 1) (o .chain) (noted n (handed (o .answer)) results)))
     (stop n s results (verdictIn (o .answer)))
 
--- an accepted event's answer is no refusal
-driven-accepted : (r : Response) (s : Chain) → isAccepted (verdictIn (driven r s)) ≡ true
-driven-accepted Idle s = refl
-driven-accepted (UnderWay r) s = refl
-
-fall-accepted : (r : Response) (s : Chain) → isAccepted (verdictIn (fallAnswer r s)) ≡ true
-unfolding fallAnswer
-fall-accepted Idle s = driven-accepted (selected s) s
-fall-accepted (UnderWay r) s = refl
-
-answer-accepted : (e : Event) (s : Chain) → isAccepted (verdictIn (answerOf e s)) ≡ true
-answer-accepted (Command i code) s = refl
-answer-accepted (Data i byte) s = refl
-answer-accepted (Status i) s = refl
-answer-accepted (Read i) s = refl
-answer-accepted (Line i channel level) s = refl
-answer-accepted (Enable level) s = refl
-answer-accepted Fall s = fall-accepted (s .response) s
-answer-accepted Rise s = refl
-
 judged-same : (v : Verdict) (e : Event) (s : Chain) → isAccepted (verdictIn (judged v e s .answer)) ≡ false → judged v e s .chain ≡ s
-unfolding judged accepted refused
+unfolding judged accepted refused decision
 judged-same (Refused why) e s off = refl
-judged-same Accepted e s off = not-both (sym off ∙ answer-accepted e s)
+judged-same Accepted e s off = not-both (sym off ∙ ap isAccepted (decided-tells e (seenBy e s)))
 
 -- a listed event that is refused leaves the chain
 pub step-same : (listed : Listed) (s : Chain) → isAccepted (verdictIn (listedOutcome listed s .answer)) ≡ false → listedOutcome listed s .chain ≡ s

@@ -1,2 +1,3 @@
 pub mod List
+pub mod OnImage
 pub mod Run

@@ -1,15 +1,15 @@
 // Runs: lists of events as lent bytes, applied to one chain up to a limit, the end or the first refusal.
-// The records and the public call, `run`, stand here. The run itself works on an image where it lies (in_place.rt), for whoever holds one: it asks for what
+// The records and the public call, `run`, stand here. The run itself works on an image where it lies (on_image.rt), for whoever holds one: it asks for what
 // `before_any` has told.
-pub mod in_place;
 mod list;
+pub mod on_image;
 
 ghost use mathlib.Core.List.{[], _∷_};
 ghost use mathlib.Core.Path.{_≡_};
 ghost use Rattle.refusal.specs.Numbers.{firstOf};
 ghost use Rattle.chain.specs.Refusals.{notSound};
 ghost use Rattle.run.specs.Run.{brokenLength, shortRoom, runOf};
-use crate::in_place::run_in;
+use crate::on_image::run_in;
 use chain::Chain;
 use image::LENGTH;
 use image::reading::chain_in;

@@ -13,6 +13,7 @@ use Rattle.image.specs.OneToOne.{Whole}
 use Rattle.image.specs.Reading.{chainIn, isImage}
 use Rattle.run.proofs.Before.{refused-before}
 use Rattle.run.proofs.Owned.{chips-whole}
+use Rattle.run.specs.OnImage.{reportIn}
 use Rattle.run.specs.Run.{stopped, beforeAny, runOf}
 use Rattle.run.specs.declared.Ran.{Ran}
 use Rattle.run.proofs.run.Statement.{statement}
@@ -76,15 +77,9 @@ same-length c = search needs
 returns-2 : tie.Need-returns-2
 returns-2 c =
     let same : chainIn (c .before .before .before .before .before .before .before .before .before .before .put-chain .last .0) ≡ c .before .before .before .before .before .before .before .before .before .before .before .before .before .before .before .before .before .args .chain = ap chainIn (c .before .before .before .before .before .before .before .before .before .before .put-chain .ensures) ∙ read-back (c .before .before .before .before .before .before .before .before .before .before .before .before .before .before .before .before .before .args .chain) (whole (c .before .before .before .before .before .before .before .before .before .before .before .before .before .before .before .before .before)) in
-    let ran : Chain → Ran = λ s. runOf s (c .before .before .before .before .before .before .before .before .before .before .before .before .before .before .before .before .before .args .bytes .now) (c .before .before .before .before .before .before .before .before .before .before .before .before .before .before .before .before .before .args .limit) (c .before .before .before .before .before .before .before .before .before .before .before .before .before .before .before .before .before .args .results .now) .ran in
-    let with-these : Verdict → ℕ → Chain → Ran = λ verdict accepted chain. record { verdict = verdict; accepted = accepted; chain = chain } in (
-      c .stopped2 .ensures
-          ∙ ap (λ v. with-these v (c .before .before .before .before .before .before .run-in .result .accepted) (c .before .chain-in .result)) (c .before .before .before .before .before .before .run-in .ensures .0)
-          ∙ ap (λ n. with-these (ran (chainIn (c .before .before .before .before .before .before .before .before .before .before .put-chain .last .0)) .verdict) n (c .before .chain-in .result)) (c .before .before .before .before .before .before .run-in .ensures .1 .0)
-          ∙ ap (with-these (ran (chainIn (c .before .before .before .before .before .before .before .before .before .before .put-chain .last .0)) .verdict) (ran (chainIn (c .before .before .before .before .before .before .before .before .before .before .put-chain .last .0)) .accepted)) (c .before .chain-in .ensures ∙ c .before .before .before .before .before .before .run-in .ensures .1 .1 .1 .0)
-          ∙ ap ran same,
-      c .before .before .before .before .before .before .run-in .ensures .1 .1 .1 .1 ∙ ap (λ s. runOf s (c .before .before .before .before .before .before .before .before .before .before .before .before .before .before .before .before .before .args .bytes .now) (c .before .before .before .before .before .before .before .before .before .before .before .before .before .before .before .before .before .args .limit) (c .before .before .before .before .before .before .before .before .before .before .before .before .before .before .before .before .before .args .results .now) .results) same,
-    )
+    let is : reportIn (c .before .before .before .before .before .before .run-in .result) (c .before .before .before .before .before .before .run-in .last .0) (c .before .before .before .before .before .before .run-in .last .1 .1 .1 .0) ≡ runOf (c .before .before .before .before .before .before .before .before .before .before .before .before .before .before .before .before .before .args .chain) (c .before .before .before .before .before .before .before .before .before .before .before .before .before .before .before .before .before .args .bytes .now) (c .before .before .before .before .before .before .before .before .before .before .before .before .before .before .before .before .before .args .limit) (c .before .before .before .before .before .before .before .before .before .before .before .before .before .before .before .before .before .args .results .now) =
+    c .before .before .before .before .before .before .run-in .ensures .1 ∙ ap (λ s. runOf s (c .before .before .before .before .before .before .before .before .before .before .before .before .before .before .before .before .before .args .bytes .now) (c .before .before .before .before .before .before .before .before .before .before .before .before .before .before .before .before .before .args .limit) (c .before .before .before .before .before .before .before .before .before .before .before .before .before .before .before .before .before .args .results .now)) same in
+    (c .stopped2 .ensures ∙ ap (λ chain. record { verdict = c .before .before .before .before .before .before .run-in .result .verdict; accepted = c .before .before .before .before .before .before .run-in .result .accepted; chain = chain }) (c .before .chain-in .ensures) ∙ ap (λ r. r .ran) is, ap (λ r. r .results) is)
 
 pub run-spec : {M : Type 1} → statement M
 run-spec =

@@ -1,4 +1,4 @@
--- `run::in_place::perform_in` meets its contract.
+-- `run::on_image::perform_in` meets its contract.
 -- Assumes nothing.
 use mathlib.Core.Bool.{true, false}
 use mathlib.Core.List.{List}
@@ -20,8 +20,8 @@ use Rattle.image.specs.Reading.{chainIn, isImage}
 use Rattle.run.proofs.Steps.{stops, goes-on, noted-length, step-sound, step-same}
 use Rattle.run.specs.List.{listedAt}
 use Rattle.run.specs.Run.{noted, runFrom, stopped, listedOutcome}
-use Rattle.run.proofs.in_place.perform_in.Statement.{statement}
-use Rattle.run.proofs.in_place.perform_in.Tie as tie
+use Rattle.run.proofs.on_image.perform_in.Statement.{statement}
+use Rattle.run.proofs.on_image.perform_in.Tie as tie
 
 abbrev Inv-loop : tie.InvT-loop
 Inv-loop image₀ bytes count results₀ n₀ image results n =
@@ -63,14 +63,8 @@ returns c =
     let off : isAccepted (verdictIn (o .answer)) ≡ false = told ∙ not-true (c .before .is-accepted .result) (c .if1 .taken) in
     let ended : runFrom (c .before .before .before .before .before .before .before .before .before .before .before .before .before .args .count) bytes 0 (chainIn (c .before .before .before .before .before .before .before .before .before .before .before .before .before .args .image .now)) (c .before .before .before .before .before .before .before .before .before .before .before .before .before .args .results .now) ≡ stopped (verdictIn (o .answer)) n s (c .before .before .before .before .before .before .before .before .before .loop .results) =
     c .before .before .before .before .before .before .before .before .before .loop .inv .4 ∙ stops (c .before .before .before .before .before .before .before .before .before .before .before .before .before .args .count - n) (c .before .before .before .before .before .before .before .before .before .before .before .before .before .args .count - (n + 1)) bytes n s (c .before .before .before .before .before .before .before .before .before .loop .results) o (omega arith) refl off in (
-      c .before .before .verdict .ensures ∙ ap verdictIn answered ∙ sym (ap (λ r. r .ran .verdict) ended),
-      (
-        sym (ap (λ r. r .ran .accepted) ended),
-        (
-          c .before .before .before .before .before .step-in .ensures .1 .0,
-          (left ∙ step-same (listedAt bytes n) s off ∙ sym (ap (λ r. r .ran .chain) ended), sym (ap (λ r. r .results) ended)),
-        ),
-      ),
+      c .before .before .before .before .before .step-in .ensures .1 .0,
+      ap₂ (λ v t. stopped v n t (c .before .before .before .before .before .before .before .before .before .loop .results)) (c .before .before .verdict .ensures ∙ ap verdictIn answered) (left ∙ step-same (listedAt bytes n) s off) ∙ sym ended,
     )
 
 note-requires : tie.Need-note-requires Inv-loop μ-loop
@@ -117,8 +111,8 @@ returns-2 c =
     c .before .loop .inv .4
     ∙ ap (λ left. runFrom left (c .before .before .before .before .before .args .bytes .now) (c .before .loop .n) (chainIn (c .before .loop .image)) (c .before .loop .results)) none-left
     ∙ ap (λ n. stopped Verdict.Accepted n (chainIn (c .before .loop .image)) (c .before .loop .results)) at-end in (
-      sym (ap (λ r. r .ran .verdict) ended),
-      (sym (ap (λ r. r .ran .accepted) ended), (c .before .loop .inv .1, (sym (ap (λ r. r .ran .chain) ended), sym (ap (λ r. r .results) ended)))),
+      c .before .loop .inv .1,
+      sym ended,
     )
 
 pub perform-in-spec : {M : Type 1} → statement M

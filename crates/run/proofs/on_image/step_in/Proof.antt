@@ -1,11 +1,11 @@
--- `run::in_place::step_in` meets its contract.
+-- `run::on_image::step_in` meets its contract.
 -- Assumes nothing.
 use mathlib.Core.Path.{sym, ap, _∙_}
 use borrow.Author.Needs.{needs}
 use Rattle.image.specs.Reading.{chainIn}
 use Rattle.run.specs.Run.{listedOutcome}
-use Rattle.run.proofs.in_place.step_in.Statement.{statement}
-use Rattle.run.proofs.in_place.step_in.Tie as tie
+use Rattle.run.proofs.on_image.step_in.Statement.{statement}
+use Rattle.run.proofs.on_image.step_in.Tie as tie
 
 enum-known-listed : tie.Need-enum-known-listed
 enum-known-listed c = search needs

@@ -1,4 +1,4 @@
--- `run::in_place::run_in` meets its contract.
+-- `run::on_image::run_in` meets its contract.
 -- Assumes nothing.
 use mathlib.Core.Path.{_≡_, refl, sym, ap, _∙_}
 use native.Mathlib.Omega.{arith}
@@ -6,8 +6,8 @@ use borrow.Author.Needs.{needs}
 use Rattle.image.specs.Reading.{chainIn}
 use Rattle.run.proofs.Before.{none-before, before-room, before-sound}
 use Rattle.run.specs.Run.{runFrom, beforeAny, runOf}
-use Rattle.run.proofs.in_place.run_in.Statement.{statement}
-use Rattle.run.proofs.in_place.run_in.Tie as tie
+use Rattle.run.proofs.on_image.run_in.Statement.{statement}
+use Rattle.run.proofs.on_image.run_in.Tie as tie
 
 least-requires : tie.Need-least-requires
 least-requires c κs = search needs
@@ -25,16 +25,8 @@ returns : tie.Need-returns
 returns c =
     let is : runFrom (c .before .before .before .before .before .before .least .result) (c .before .before .before .before .before .before .before .before .before .before .before .args .bytes .now) 0 (chainIn (c .before .before .before .before .before .before .before .before .before .before .before .args .image .now)) (c .before .before .before .before .before .before .before .before .before .before .before .args .results .now) ≡ runOf (chainIn (c .before .before .before .before .before .before .before .before .before .before .before .args .image .now)) (c .before .before .before .before .before .before .before .before .before .before .before .args .bytes .now) (c .before .before .before .before .before .before .before .before .before .before .before .args .limit) (c .before .before .before .before .before .before .before .before .before .before .before .args .results .now) =
     ap (λ count. runFrom count (c .before .before .before .before .before .before .before .before .before .before .before .args .bytes .now) 0 (chainIn (c .before .before .before .before .before .before .before .before .before .before .before .args .image .now)) (c .before .before .before .before .before .before .before .before .before .before .before .args .results .now)) (c .before .before .before .before .before .before .least .ensures)
-    ∙ sym (none-before (chainIn (c .before .before .before .before .before .before .before .before .before .before .before .args .image .now)) (c .before .before .before .before .before .before .before .before .before .before .before .args .bytes .now) (c .before .before .before .before .before .before .before .before .before .before .before .args .limit) (c .before .before .before .before .before .before .before .before .before .before .before .args .results .now) (beforeAny (chainIn (c .before .before .before .before .before .before .before .before .before .before .before .args .image .now)) (c .before .before .before .before .before .before .before .before .before .before .before .args .bytes .now) (c .before .before .before .before .before .before .before .before .before .before .before .args .results .now)) refl (c .before .before .before .before .before .before .before .before .before .before .before .pre .1)) in (
-      c .before .before .before .before .perform-in .ensures .0 ∙ ap (λ r. r .ran .verdict) is,
-      (
-        c .before .before .before .before .perform-in .ensures .1 .0 ∙ ap (λ r. r .ran .accepted) is,
-        (
-          c .before .before .before .before .perform-in .ensures .1 .1 .0,
-          (c .before .before .before .before .perform-in .ensures .1 .1 .1 .0 ∙ ap (λ r. r .ran .chain) is, c .before .before .before .before .perform-in .ensures .1 .1 .1 .1 ∙ ap (λ r. r .results) is),
-        ),
-      ),
-    )
+    ∙ sym (none-before (chainIn (c .before .before .before .before .before .before .before .before .before .before .before .args .image .now)) (c .before .before .before .before .before .before .before .before .before .before .before .args .bytes .now) (c .before .before .before .before .before .before .before .before .before .before .before .args .limit) (c .before .before .before .before .before .before .before .before .before .before .before .args .results .now) (beforeAny (chainIn (c .before .before .before .before .before .before .before .before .before .before .before .args .image .now)) (c .before .before .before .before .before .before .before .before .before .before .before .args .bytes .now) (c .before .before .before .before .before .before .before .before .before .before .before .args .results .now)) refl (c .before .before .before .before .before .before .before .before .before .before .before .pre .1)) in
+    (c .before .before .before .before .perform-in .ensures .0, c .before .before .before .before .perform-in .ensures .1 ∙ is)
 
 pub run-in-spec : {M : Type 1} → statement M
 run-in-spec =

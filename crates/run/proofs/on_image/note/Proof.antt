@@ -1,11 +1,11 @@
--- `run::in_place::note` meets its contract.
+-- `run::on_image::note` meets its contract.
 -- Assumes nothing.
 use Prim.Native.Nat.{_*_}
 use native.Mathlib.Omega.{arith}
 use lib.ListN.{length-set}
 use borrow.Author.Needs.{needs}
-use Rattle.run.proofs.in_place.note.Statement.{statement}
-use Rattle.run.proofs.in_place.note.Tie as tie
+use Rattle.run.proofs.on_image.note.Statement.{statement}
+use Rattle.run.proofs.on_image.note.Tie as tie
 
 mul-first : tie.Need-mul-first
 mul-first c = search needs

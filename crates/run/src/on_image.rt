@@ -7,7 +7,8 @@ ghost use Rattle.refusal.specs.Answers.{handed};
 ghost use Rattle.chain.specs.Sound.{sound};
 ghost use Rattle.image.specs.Reading.{chainIn, isImage};
 ghost use Rattle.refusal.specs.Numbers.{isAccepted};
-ghost use Rattle.run.specs.Run.{listedOutcome, noted, beforeAny, runFrom, runOf};
+ghost use Rattle.run.specs.OnImage.{reportIn, performed, ranOn};
+ghost use Rattle.run.specs.Run.{listedOutcome, noted, beforeAny};
 use crate::list::listed_at;
 use event::Listed;
 use in_place::on;
@@ -58,11 +59,8 @@ fn perform_in(image: &mut [u8], bytes: &[u8], count: usize, results: &mut [u8]) 
     requires { ⌜ sound (chainIn (now image)) ≡ true ⌝ }
     requires { ⌜ 4 * count ≤ length (now bytes) ⌝ }
     requires { ⌜ 2 * count ≤ length (now results) ⌝ }
-    ensures { λ r. ⌜ r .verdict ≡ runFrom count (now (bytes .entry)) 0 (chainIn (now (image .entry))) (now (results .entry)) .ran .verdict ⌝ }
-    ensures { λ r. ⌜ r .accepted ≡ runFrom count (now (bytes .entry)) 0 (chainIn (now (image .entry))) (now (results .entry)) .ran .accepted ⌝ }
     ensures { λ _. ⌜ isImage (now (image .exit)) ≡ true ⌝ }
-    ensures { λ _. ⌜ chainIn (now (image .exit)) ≡ runFrom count (now (bytes .entry)) 0 (chainIn (now (image .entry))) (now (results .entry)) .ran .chain ⌝ }
-    ensures { λ _. ⌜ now (results .exit) ≡ runFrom count (now (bytes .entry)) 0 (chainIn (now (image .entry))) (now (results .entry)) .results ⌝ }
+    ensures { λ r. ⌜ reportIn r (now (image .exit)) (now (results .exit)) ≡ performed count (now (bytes .entry)) (now (image .entry)) (now (results .entry)) ⌝ }
 {
     let mut n = 0;
     while n < count {
@@ -87,11 +85,8 @@ fn perform_in(image: &mut [u8], bytes: &[u8], count: usize, results: &mut [u8]) 
 pub fn run_in(image: &mut [u8], bytes: &[u8], limit: usize, results: &mut [u8]) -> Reached
     requires { ⌜ isImage (now image) ≡ true ⌝ }
     requires { ⌜ isAccepted (beforeAny (chainIn (now image)) (now bytes) (now results)) ≡ true ⌝ }
-    ensures { λ r. ⌜ r .verdict ≡ runOf (chainIn (now (image .entry))) (now (bytes .entry)) limit (now (results .entry)) .ran .verdict ⌝ }
-    ensures { λ r. ⌜ r .accepted ≡ runOf (chainIn (now (image .entry))) (now (bytes .entry)) limit (now (results .entry)) .ran .accepted ⌝ }
     ensures { λ _. ⌜ isImage (now (image .exit)) ≡ true ⌝ }
-    ensures { λ _. ⌜ chainIn (now (image .exit)) ≡ runOf (chainIn (now (image .entry))) (now (bytes .entry)) limit (now (results .entry)) .ran .chain ⌝ }
-    ensures { λ _. ⌜ now (results .exit) ≡ runOf (chainIn (now (image .entry))) (now (bytes .entry)) limit (now (results .entry)) .results ⌝ }
+    ensures { λ r. ⌜ reportIn r (now (image .exit)) (now (results .exit)) ≡ ranOn (now (image .entry)) (now (bytes .entry)) limit (now (results .entry)) ⌝ }
 {
     perform_in(image, bytes, least(limit, bytes.len() / 4), results)
 }
