@@ -17,9 +17,8 @@ use Rattle.chip.specs.Data.{isPastItsCount}
 use Rattle.chip.specs.Figure4.{figure4, undefined}
 use Rattle.chip.specs.Sound.{chipSound}
 use Rattle.chain.specs.Fields.{chipAt}
-use Rattle.chain.specs.Refusals.{checks, notBelowCount, noSuchChip, noSuchChannel, noSuchLevel, whileIackIsLow, pulseUnderWay, undefinedCommand, noDestination, pastItsCount, verdictOf}
+use Rattle.chain.specs.Refusals.{checks, notBelowCount, noSuchChannel, noSuchLevel, whileIackIsLow, pulseUnderWay, undefinedCommand, noDestination, pastItsCount, verdictOf}
 use Rattle.chain.specs.Sound.{sound}
-use Rattle.chain.specs.Views.{viewVerdict}
 use Rattle.chain.specs.declared.Chain.{Chain}
 use Rattle.event.specs.declared.Event.{Event}
 use Rattle.event.specs.declared.Event.the-variants.{Command, Data, Status, Read, Line, Enable, Fall, Rise}
@@ -90,12 +89,6 @@ passed-fall s v = not-false (s .iack) (passed-first (not (s .iack)) IackThereAlr
 
 pub passed-rise : (s : Chain) → verdictOf Rise s ≡ Accepted → s .iack ≡ false
 passed-rise s v = passed-first (s .iack) IackThereAlready [] (passed-checks Rise s v)
-
--- an accepted view names one of the eight records
-pub passed-view : (i : ℕ) (s : Chain) → viewVerdict i s ≡ Accepted → i < 8
-passed-view i s v =
-    in-eight s i (not-false (sound s) (passed-first (not (sound s)) NotSound (noSuchChip i s ∷ []) v))
-    (below i (s .count) (passed-first (leb (s .count) i) NoSuchChip [] (passed-rest (not (sound s)) NotSound (noSuchChip i s ∷ []) v)))
 
 -- tests in two parts: where the first part refuses, that is the verdict; where it accepts, the rest decides
 pub refused-at-first : (first rest : List (Bool × Refusal)) (v : Verdict) (ok : Bool) → v ≡ firstOf first → ok ≡ isAccepted v → ok ≡ false

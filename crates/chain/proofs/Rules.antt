@@ -9,7 +9,6 @@ use Rattle.chain.specs.Pulse.{answeringChip, selected, firstPulse, falle
 use Rattle.chain.specs.Refusals.{verdictOf}
 use Rattle.chain.specs.Sound.{chipsSound, sound}
 use Rattle.chain.specs.Start.{started, startOf}
-use Rattle.chain.specs.Views.{tableOr, pictureOr, registerView, pinView}
 
 -- a chain with one field replaced, as a record
 unfoldable pub chainFields : Unit {0}
@@ -17,5 +16,5 @@ unfolding withChips withChip withEnable withIack withResponse withEvent zeroChai
 chainFields = tt
 
 unfoldable pub rules : Unit {0}
-unfolding chipRules chainFields changed counted accepted refused judged eventOf ei answeringChip selected firstPulse fallen fallAnswer risen risenAfter verdictOf chipsSound sound started startOf tableOr pictureOr registerView pinView
+unfolding chipRules chainFields changed counted accepted refused judged eventOf ei answeringChip selected firstPulse fallen fallAnswer risen risenAfter verdictOf chipsSound sound started startOf
 rules = tt

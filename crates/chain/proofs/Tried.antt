@@ -6,7 +6,6 @@ use Prim.Native.Nat.{ℕ}
 use Rattle.chip.specs.Fields.{withPointer}
 use Rattle.chip.specs.Reset.{powerUp}
 use Rattle.refusal.specs.Answers.{handed}
-use Rattle.chain.specs.Views.{tabled, pictured, registerView, pinView}
 use Rattle.chain.specs.Events.{eventOf}
 use Rattle.chain.specs.Fields.{withChip, withIack, withResponse, zeroChain}
 use Rattle.chain.specs.Sound.{sound}
@@ -26,12 +25,10 @@ sound-starts : (sound (startOf 1 0xFF .chain) ≡ true) × (sound (startOf 8 0xF
 unfolding rules
 sound-starts = (refl, refl)
 
--- every later call on a refused start gives 1
-after-a-refused-start :
-    (handed (eventOf Fall zeroChain .answer) .number ≡ 1)
-    × (tabled (registerView 0 zeroChain) .number ≡ 1)
+-- every later event on a refused start gives 1
+after-a-refused-start : handed (eventOf Fall zeroChain .answer) .number ≡ 1
 unfolding rules
-after-a-refused-start = (refl, refl)
+after-a-refused-start = refl
 
 -- a pointer above 7 in the count is not sound; past the count it is no matter
 pointers :
@@ -70,10 +67,3 @@ others :
     × (numberOf (Data 1 0x00) (started 2 0) ≡ 8)
 unfolding rules
 others = (refl, refl)
-
--- a view is given during a pulse, and refused by 2 for an absent chip
-views :
-    (tabled (registerView 1 (withIack false (started 2 0))) .number ≡ 0)
-    × (pictured (pinView 2 (started 2 0)) .number ≡ 2)
-unfolding rules
-views = (refl, refl)

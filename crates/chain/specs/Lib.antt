@@ -5,4 +5,3 @@ pub mod Pulse
 pub mod Refusals
 pub mod Sound
 pub mod Start
-pub mod Views

@@ -94,7 +94,7 @@ impl Chain {
     }
 
     // The status byte of chip i.
-    pub(crate) fn status_of(self, i: u8) -> u8
+    pub fn status_of(self, i: u8) -> u8
         requires { ⌜ i < 8 ⌝ }
         ensures { λ r. ⌜ r ≡ statusByte (chipAt self i) (ei self i) ⌝ }
     {

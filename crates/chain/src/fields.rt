@@ -39,7 +39,7 @@ impl Chain {
     }
 
     // Chip i.
-    pub(crate) fn chip_at(self, i: u8) -> Chip
+    pub fn chip_at(self, i: u8) -> Chip
         requires { ⌜ i < 8 ⌝ }
         ensures { λ r. ⌜ r ≡ chipAt self i ⌝ }
     {

@@ -37,7 +37,7 @@ impl Response {
 
 impl Chain {
     // EO of chip i at a level of its EI.
-    pub(crate) fn eo_at(self, ei: bool, i: u8) -> bool
+    pub fn eo_at(self, ei: bool, i: u8) -> bool
         requires { ⌜ i < 8 ⌝ }
         ensures { λ r. ⌜ r ≡ eoAt ei self i ⌝ }
     {
@@ -46,7 +46,7 @@ impl Chain {
     }
 
     // EI of chip 0 is the chain's; EI of another is EO of the chip before.
-    pub(crate) fn ei(self, i: u8) -> bool
+    pub fn ei(self, i: u8) -> bool
         requires { ⌜ i < 8 ⌝ }
         ensures { λ r. ⌜ r ≡ ei self i ⌝ }
     {
@@ -58,7 +58,7 @@ impl Chain {
     }
 
     // RIP is low while a response is under way.
-    pub(crate) fn rip(self) -> bool
+    pub fn rip(self) -> bool
         ensures { λ r. ⌜ r ≡ rip self ⌝ }
     {
         let response = self.response;
@@ -66,7 +66,7 @@ impl Chain {
     }
 
     // PAUSE is low when IACK is low and no response is under way.
-    pub(crate) fn pause(self) -> bool
+    pub fn pause(self) -> bool
         ensures { λ r. ⌜ r ≡ pause self ⌝ }
     {
         let response = self.response;

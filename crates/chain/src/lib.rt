@@ -1,5 +1,5 @@
-// One to eight chained Am9519A chips: the chain's record, the eight events, and the two views of one state.
-// The records stand here. The public calls are in start.rt, calls.rt (the eight events), views.rt and sound.rt; they
+// One to eight chained Am9519A chips: the chain's record, and the eight events.
+// The records stand here. The public calls are in start.rt, calls.rt (the eight events) and sound.rt; they
 // take every input. What stands behind them asks for what they have checked: a sound chain, an event that no refusal meets, an index in range.
 // refusals.rt has the tests of the table, public too, over what they look at: for whoever holds a chain in another form than the record.
 mod calls;
@@ -10,11 +10,9 @@ mod pulse;
 pub mod refusals;
 mod sound;
 mod start;
-mod views;
 
 use chip::Chip;
 use refusal::Answer;
-use refusal::Refusal;
 
 // A response that is under way, and how many of its bytes the chip has driven.
 pub struct Reply {
@@ -45,38 +43,4 @@ pub struct Chain {
 pub struct Outcome {
     pub answer: Answer,
     pub chain: Chain,
-}
-
-// The table of a chip's registers.
-pub struct Registers {
-    pub event: u16,
-    pub irr: u8,
-    pub isr: u8,
-    pub imr: u8,
-    pub acr: u8,
-    pub mode: u8,
-    pub status: u8,
-    pub waiting: u8,
-}
-
-// The picture of a chip's pins, and of the chain's.
-pub struct Pins {
-    pub event: u16,
-    pub ei: u8,
-    pub eo: u8,
-    // 0, 1, or 2 for released.
-    pub gint: u8,
-    pub rip: u8,
-    pub pause: u8,
-    pub iack: u8,
-}
-
-pub enum RegisterView {
-    Table(Registers),
-    NoTable(Refusal),
-}
-
-pub enum PinView {
-    Picture(Pins),
-    NoPicture(Refusal),
 }

@@ -16,7 +16,7 @@ use refusal::Refusal;
 use refusal::Verdict;
 
 // Whatever names a chip: chip not below the count.
-pub(crate) fn chip_verdict(count: u8, i: u8) -> Verdict
+pub fn chip_verdict(count: u8, i: u8) -> Verdict
     ensures { λ r. ⌜ r ≡ firstOf (notBelowCount count i ∷ []) ⌝ }
 {
     if i >= count {

@@ -1,9 +1,9 @@
--- `chain::Chain::view_verdict` meets its contract.
+-- `views::view_verdict` meets its contract.
 -- Assumes nothing.
 use borrow.Author.Needs.{needs}
 use borrow.Author.Tests.{not-true, not-false}
-use Rattle.chain.proofs.Chain.view_verdict.Statement.{statement}
-use Rattle.chain.proofs.Chain.view_verdict.Tie as tie
+use Rattle.views.proofs.view_verdict.Statement.{statement}
+use Rattle.views.proofs.view_verdict.Tie as tie
 
 is-sound-requires : tie.Need-is-sound-requires
 is-sound-requires c κs = search needs

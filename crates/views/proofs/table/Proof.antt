@@ -1,8 +1,8 @@
--- `chain::Chain::table` meets its contract.
+-- `views::table` meets its contract.
 -- Assumes nothing.
 use borrow.Author.Needs.{needs}
-use Rattle.chain.proofs.Chain.table.Statement.{statement}
-use Rattle.chain.proofs.Chain.table.Tie as tie
+use Rattle.views.proofs.table.Statement.{statement}
+use Rattle.views.proofs.table.Tie as tie
 
 chip-at-requires : tie.Need-chip-at-requires
 chip-at-requires c κs = search needs

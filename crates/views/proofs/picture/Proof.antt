@@ -1,8 +1,8 @@
--- `chain::Chain::picture` meets its contract.
+-- `views::picture` meets its contract.
 -- Assumes nothing.
 use borrow.Author.Needs.{needs}
-use Rattle.chain.proofs.Chain.picture.Statement.{statement}
-use Rattle.chain.proofs.Chain.picture.Tie as tie
+use Rattle.views.proofs.picture.Statement.{statement}
+use Rattle.views.proofs.picture.Tie as tie
 
 chip-at-requires : tie.Need-chip-at-requires
 chip-at-requires c κs = search needs
