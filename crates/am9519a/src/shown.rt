@@ -1,13 +1,10 @@
 // The bytes of a view, and a view into a lent buffer.
-ghost use mathlib.Core.List.{[], _∷_};
 ghost use mathlib.Core.Path.{_≡_};
-ghost use lib.ListN.{length};
-ghost use Rattle.refusal.specs.Numbers.{firstOf};
-ghost use Rattle.image.specs.Layout.{over};
-ghost use Rattle.am9519a.specs.Calls.{shortBuffer, called, tableBytes, pictureBytes};
-use chain::Pins;
-use chain::Registers;
+ghost use Rattle.am9519a.specs.Calls.{viewed, tableBytes, pictureBytes};
 use image::writing::put_bytes;
+use refusal::Verdict;
+use views::Pins;
+use views::Registers;
 
 // A register view's nine bytes.
 pub(crate) fn table_bytes(table: Registers) -> [u8; 9]
@@ -42,11 +39,14 @@ pub(crate) fn picture_bytes(picture: Pins) -> [u8; 8]
     ]
 }
 
-// The bytes of a view into the first bytes of a buffer: 11 where it is too short.
-pub(crate) fn put_view(view: &mut [u8], bytes: &[u8]) -> u8
-    ensures { λ r. ⌜ r ≡ called (firstOf (shortBuffer (length (now (bytes .entry))) (now (view .entry)) ∷ [])) (now (view .entry)) (over (now (view .entry)) 0 (now (bytes .entry))) .number ⌝ }
-    ensures { λ _. ⌜ now (view .exit) ≡ called (firstOf (shortBuffer (length (now (bytes .entry))) (now (view .entry)) ∷ [])) (now (view .entry)) (over (now (view .entry)) 0 (now (bytes .entry))) .buffer ⌝ }
+// A view's number, and its bytes into the first bytes of a buffer: 11 where that is too short.
+pub(crate) fn put_view(view: &mut [u8], verdict: Verdict, bytes: &[u8]) -> u8
+    ensures { λ r. ⌜ r ≡ viewed verdict (now (bytes .entry)) (now (view .entry)) .number ⌝ }
+    ensures { λ _. ⌜ now (view .exit) ≡ viewed verdict (now (bytes .entry)) (now (view .entry)) .buffer ⌝ }
 {
+    if !verdict.is_accepted() {
+        return verdict.number();
+    }
     if view.len() < bytes.len() {
         return 11;
     }
