@@ -23,17 +23,17 @@ written to none = to
 written to (b then bs) = written (stored to b) bs
 
 -- a decimal digit
-abbrev pub digit : ℕ → ℕ
-digit value = 48 + value
+abbrev pub decimalDigit : ℕ → ℕ
+decimalDigit value = 48 + value
 
 -- the digits of a number, none for zero, and at most k of them
 abbrev pub digits : ℕ → ℕ → List ℕ
 digits zero n = none
-digits (suc k) n = cond (eqb n 0) none (digits k (n / 10) ++ (digit (n % 10) then none))
+digits (suc k) n = cond (eqb n 0) none (digits k (n / 10) ++ (decimalDigit (n % 10) then none))
 
 -- a number in decimal, without zeros in front: its last digit, and before it those that it has; nineteen and one are enough for 64 bits
 unfoldable pub decimal : ℕ → List ℕ
-decimal n = digits 19 (n / 10) ++ (digit (n % 10) then none)
+decimal n = digits 19 (n / 10) ++ (decimalDigit (n % 10) then none)
 
 -- a hex digit, in upper case
 abbrev pub hexDigit : ℕ → ℕ
