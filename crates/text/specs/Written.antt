@@ -47,3 +47,10 @@ hexByte byte = hexDigit (byte / 16) then hexDigit (byte % 16) then none
 abbrev pub joined : List (List ℕ) → List ℕ
 joined none = none
 joined (part then parts) = part ++ joined parts
+
+-- a name, and a number in decimal or a byte in hex
+abbrev pub field : String → ℕ → List ℕ
+field name n = text name ++ decimal n
+
+abbrev pub byteField : String → ℕ → List ℕ
+byteField name byte = text name ++ hexByte byte

@@ -1,11 +1,11 @@
--- `page::fields::put_field` meets its contract.
+-- `text::put::put_field` meets its contract.
 -- Assumes nothing.
 use mathlib.Core.Path.{sym, _∙_}
 use Rattle.text.specs.Written.{decimal}
 use Rattle.text.proofs.Written.{again, written-append}
 use borrow.Author.Needs.{needs}
-use Rattle.page.proofs.fields.put_field.Statement.{statement}
-use Rattle.page.proofs.fields.put_field.Tie as tie
+use Rattle.text.proofs.put.put_field.Statement.{statement}
+use Rattle.text.proofs.put.put_field.Tie as tie
 
 put-requires : tie.Need-put-requires
 put-requires c κs = search needs
