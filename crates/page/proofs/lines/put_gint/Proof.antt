@@ -1,9 +1,9 @@
--- `page::fields::put_gint` meets its contract.
+-- `page::lines::put_gint` meets its contract.
 -- Assumes nothing.
 use borrow.Author.Tests.{eq-eqb, ne-eqb}
 use borrow.Author.Needs.{needs}
-use Rattle.page.proofs.fields.put_gint.Statement.{statement}
-use Rattle.page.proofs.fields.put_gint.Tie as tie
+use Rattle.page.proofs.lines.put_gint.Statement.{statement}
+use Rattle.page.proofs.lines.put_gint.Tie as tie
 
 slice-aggregate-put : tie.Need-slice-aggregate-put
 slice-aggregate-put c = search needs
