@@ -14,9 +14,8 @@ use Rattle.refusal.specs.declared.Answer.the-variants.{Done, Byte, Refused}
 use Rattle.chain.specs.declared.Chain.{Chain}
 use Rattle.page.specs.Page.{gintField, heading, chipPins, chainPins, pinsParts, requestBytes, stateFields, registersParts, pinsLine, registersLine, chipLines, chipsFrom, byteText, eventParts, pageOf}
 use Rattle.refusal.specs.Numbers.{isAccepted}
-use Rattle.steps.specs.Kinds.{names, nameOf}
+use Rattle.steps.proofs.Bounds.{name-le}
 use Rattle.text.proofs.Fits.{joined-le, numbered-le, field-le, byte-le}
-use Rattle.text.proofs.Places.{line-le}
 use Rattle.text.specs.Written.{text, joined, field}
 use Rattle.views.specs.Views.{registerView, pinView}
 use Rattle.views.specs.declared.PinView.{PinView}
@@ -92,11 +91,6 @@ chips-all s = either (sound s) refl
     either : (t : Bool) → sound s ≡ t → length (chipsFrom (s .count) 0 s) ≤ 8192
     either true is = omega (arith, chips-le (s .count) 0 s, count-le s is)
     either false is = omega (arith, no-lines (s .count) 0 s is)
-
--- a name is not longer than the table of names
-pub name-le : (kind : ℕ) → length (nameOf kind) ≤ 64
-unfolding nameOf
-name-le kind = omega (arith, line-le kind names)
 
 answer-le : (answer : Answer) → length (byteText answer) ≤ 32
 answer-le Done = omega arith

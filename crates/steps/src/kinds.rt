@@ -4,9 +4,8 @@ ghost use Rattle.steps.specs.Kinds.{nameOf, kindOf, formOf, argumentNumb
 ghost use Rattle.text.specs.Written.{written};
 use crate::Argument;
 use crate::Form;
-use text::put::put;
-use text::tables::line_in;
 use text::tables::place_in;
+use text::tables::put_line;
 
 // The kind of the start, and the number of kinds.
 pub const START: u8 = 0;
@@ -26,7 +25,7 @@ pub fn kind_of(word: &[u8]) -> u8
 pub fn put_name(to: &mut [u8], at: usize, kind: u8) -> usize
     ensures { λ r. ⌜ (now (to .exit), r) ≡ written (now (to .entry), at) (nameOf kind) ⌝ }
 {
-    put(to, at, line_in(&NAMES, kind))
+    put_line(to, at, &NAMES, kind)
 }
 
 // The arguments of a step.

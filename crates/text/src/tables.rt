@@ -3,7 +3,9 @@ ghost use mathlib.Core.Path.{_≡_};
 ghost use Prim.Native.Nat.{_≤_};
 ghost use lib.ListN.{length, drop};
 ghost use Rattle.text.specs.Tables.{behindLine, lineIn, placeIn};
+ghost use Rattle.text.specs.Written.{written};
 use crate::Sort;
+use crate::put::put;
 use crate::words::past;
 use crate::words::same;
 
@@ -17,6 +19,13 @@ pub fn line_in(text: &[u8], k: u8) -> &[u8]
     }
     let end = past(text, at, Sort::Inside);
     &text[at..end]
+}
+
+// Line k of a text, written.
+pub fn put_line(to: &mut [u8], at: usize, text: &[u8], k: u8) -> usize
+    ensures { λ r. ⌜ (now (to .exit), r) ≡ written (now (to .entry), at) (lineIn k (now (text .entry))) ⌝ }
+{
+    put(to, at, line_in(text, k))
 }
 
 // Where the line behind the one at a place begins.

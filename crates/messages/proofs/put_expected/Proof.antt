@@ -1,8 +1,8 @@
--- `report::messages::put_expected` meets its contract.
+-- `messages::put_expected` meets its contract.
 -- Assumes nothing.
 use borrow.Author.Needs.{needs}
-use Rattle.report.proofs.messages.put_expected.Statement.{statement}
-use Rattle.report.proofs.messages.put_expected.Tie as tie
+use Rattle.messages.proofs.put_expected.Statement.{statement}
+use Rattle.messages.proofs.put_expected.Tie as tie
 
 enum-told : tie.Need-enum-told
 enum-told c = search needs

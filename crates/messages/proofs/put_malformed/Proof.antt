@@ -1,11 +1,11 @@
--- `report::messages::put_malformed` meets its contract.
+-- `messages::put_malformed` meets its contract.
 -- Assumes nothing.
 use mathlib.Core.Path.{_∙_}
-use Rattle.report.specs.Messages.{malformedParts, malformedLine}
+use Rattle.messages.specs.Messages.{malformedParts, malformedLine}
 use Rattle.text.proofs.Written.{again, all-written}
 use borrow.Author.Needs.{needs}
-use Rattle.report.proofs.messages.put_malformed.Statement.{statement}
-use Rattle.report.proofs.messages.put_malformed.Tie as tie
+use Rattle.messages.proofs.put_malformed.Statement.{statement}
+use Rattle.messages.proofs.put_malformed.Tie as tie
 
 slice-aggregate-put-field : tie.Need-slice-aggregate-put-field
 slice-aggregate-put-field c = search needs

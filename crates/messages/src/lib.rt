@@ -1,19 +1,23 @@
 // What ends a report before the list's end: a refusal, or what should have stood in a line.
 ghost use mathlib.Core.Path.{_≡_};
-ghost use Rattle.report.specs.Messages.{refusedLine, slot, help, formParts, wantedParts, expectedParts, malformedLine};
+ghost use Rattle.messages.specs.Messages.{refusedLine, slot, help, formParts, wantedParts, expectedParts, malformedLine};
 ghost use Rattle.steps.specs.Kinds.{formOf};
-ghost use Rattle.text.specs.Written.{text, joined, written};
-use page::fields::put_field;
-use page::fields::put_name;
+ghost use Rattle.text.specs.Written.{joined, written};
 use refusal::Refusal;
 use steps::Argument;
 use steps::Expected;
-use steps::Kind;
 use steps::kinds::form_of;
+use steps::kinds::put_name;
 use text::put::put;
+use text::put::put_field;
+use text::tables::put_line;
+
+// The arguments' names, and what to write for each, in the line of its number.
+const SLOTS: [u8; 47] = *b" COUNT\n FILL\n CHIP\n CODE\n BYTE\n CHANNEL\n LEVEL\n";
+const HELPS: [u8; 318] = *b" (how many chips, decimal, 1 to 8)\n (the byte in the response memory at power-up, one or two hex digits)\n (a chip's number, decimal, 0 for the first)\n (a command, one or two hex digits)\n (a byte, one or two hex digits)\n (a channel's number, decimal, 0 to 7)\n (a level, 0 or 1)\n the end of the line, or a comment with #";
 
 // line L KIND refused R
-pub fn put_refused(to: &mut [u8], at: usize, line: u64, kind: Kind, why: Refusal) -> usize
+pub fn put_refused(to: &mut [u8], at: usize, line: u64, kind: u8, why: Refusal) -> usize
     ensures { λ r. ⌜ (now (to .exit), r) ≡ written (now (to .entry), at) (refusedLine line kind why) ⌝ }
 {
     let number = why.number();
@@ -55,7 +59,7 @@ fn put_expected(to: &mut [u8], at: usize, expected: Expected) -> usize
 }
 
 // The argument that was expected, and the form of its step.
-fn put_wanted(to: &mut [u8], at: usize, kind: Kind, argument: Argument) -> usize
+fn put_wanted(to: &mut [u8], at: usize, kind: u8, argument: Argument) -> usize
     ensures { λ r. ⌜ (now (to .exit), r) ≡ written (now (to .entry), at) (joined (wantedParts kind argument)) ⌝ }
 {
     let next = put(to, at, b"expected");
@@ -66,51 +70,28 @@ fn put_wanted(to: &mut [u8], at: usize, kind: Kind, argument: Argument) -> usize
 }
 
 // A step's name, and the names of its arguments.
-fn put_form(to: &mut [u8], at: usize, kind: Kind) -> usize
+fn put_form(to: &mut [u8], at: usize, kind: u8) -> usize
     ensures { λ r. ⌜ (now (to .exit), r) ≡ written (now (to .entry), at) (joined (formParts kind (formOf kind))) ⌝ }
 {
     let form = form_of(kind);
-    let first = form.first;
-    let second = form.second;
-    let third = form.third;
+    let first = form.chip;
+    let second = form.channel;
+    let third = form.value;
     let next = put_name(to, at, kind);
     let next = put_slot(to, next, first);
     let next = put_slot(to, next, second);
     put_slot(to, next, third)
 }
 
-// An argument's name.
+// An argument's name, and what to write for it.
 fn put_slot(to: &mut [u8], at: usize, argument: Argument) -> usize
-    ensures { λ r. ⌜ (now (to .exit), r) ≡ written (now (to .entry), at) (text (slot argument)) ⌝ }
+    ensures { λ r. ⌜ (now (to .exit), r) ≡ written (now (to .entry), at) (slot argument) ⌝ }
 {
-    match argument {
-        Argument::Count => put(to, at, b" COUNT"),
-        Argument::Fill => put(to, at, b" FILL"),
-        Argument::Chip => put(to, at, b" CHIP"),
-        Argument::Code => put(to, at, b" CODE"),
-        Argument::Byte => put(to, at, b" BYTE"),
-        Argument::Channel => put(to, at, b" CHANNEL"),
-        Argument::Level => put(to, at, b" LEVEL"),
-        Argument::End => put(to, at, b""),
-    }
+    put_line(to, at, &SLOTS, argument.number())
 }
 
-// What to write for it.
 fn put_help(to: &mut [u8], at: usize, argument: Argument) -> usize
-    ensures { λ r. ⌜ (now (to .exit), r) ≡ written (now (to .entry), at) (text (help argument)) ⌝ }
+    ensures { λ r. ⌜ (now (to .exit), r) ≡ written (now (to .entry), at) (help argument) ⌝ }
 {
-    match argument {
-        Argument::Count => put(to, at, b" (how many chips, decimal, 1 to 8)"),
-        Argument::Fill => put(
-            to,
-            at,
-            b" (the byte in the response memory at power-up, one or two hex digits)",
-        ),
-        Argument::Chip => put(to, at, b" (a chip's number, decimal, 0 for the first)"),
-        Argument::Code => put(to, at, b" (a command, one or two hex digits)"),
-        Argument::Byte => put(to, at, b" (a byte, one or two hex digits)"),
-        Argument::Channel => put(to, at, b" (a channel's number, decimal, 0 to 7)"),
-        Argument::Level => put(to, at, b" (a level, 0 or 1)"),
-        Argument::End => put(to, at, b" the end of the line, or a comment with #"),
-    }
+    put_line(to, at, &HELPS, argument.number())
 }

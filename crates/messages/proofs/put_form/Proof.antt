@@ -1,12 +1,12 @@
--- `report::messages::put_form` meets its contract.
+-- `messages::put_form` meets its contract.
 -- Assumes nothing.
 use mathlib.Core.Path.{ap, _∙_}
 use Rattle.steps.specs.Kinds.{formOf}
-use Rattle.report.specs.Messages.{formParts}
+use Rattle.messages.specs.Messages.{formParts}
 use Rattle.text.proofs.Written.{again, written-all, all-written}
 use borrow.Author.Needs.{needs}
-use Rattle.report.proofs.messages.put_form.Statement.{statement}
-use Rattle.report.proofs.messages.put_form.Tie as tie
+use Rattle.messages.proofs.put_form.Statement.{statement}
+use Rattle.messages.proofs.put_form.Tie as tie
 
 form-of-requires : tie.Need-form-of-requires
 form-of-requires c κs = search needs

@@ -1,11 +1,11 @@
--- `report::messages::put_wanted` meets its contract.
+-- `messages::put_wanted` meets its contract.
 -- Assumes nothing.
 use mathlib.Core.Path.{_∙_}
-use Rattle.report.specs.Messages.{wantedParts}
+use Rattle.messages.specs.Messages.{wantedParts}
 use Rattle.text.proofs.Written.{again, all-written}
 use borrow.Author.Needs.{needs}
-use Rattle.report.proofs.messages.put_wanted.Statement.{statement}
-use Rattle.report.proofs.messages.put_wanted.Tie as tie
+use Rattle.messages.proofs.put_wanted.Statement.{statement}
+use Rattle.messages.proofs.put_wanted.Tie as tie
 
 slice-aggregate-put : tie.Need-slice-aggregate-put
 slice-aggregate-put c = search needs

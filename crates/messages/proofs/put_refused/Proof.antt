@@ -1,13 +1,13 @@
--- `report::messages::put_refused` meets its contract.
+-- `messages::put_refused` meets its contract.
 -- Assumes nothing.
 use mathlib.Core.Path.{ap, _∙_}
 use Prim.Native.Nat.{ℕ}
 use Rattle.refusal.specs.Numbers.{refusalNumber}
-use Rattle.report.specs.Messages.{refusedParts, refusedLine}
+use Rattle.messages.specs.Messages.{refusedParts, refusedLine}
 use Rattle.text.proofs.Written.{again, written-all, all-written}
 use borrow.Author.Needs.{needs}
-use Rattle.report.proofs.messages.put_refused.Statement.{statement}
-use Rattle.report.proofs.messages.put_refused.Tie as tie
+use Rattle.messages.proofs.put_refused.Statement.{statement}
+use Rattle.messages.proofs.put_refused.Tie as tie
 
 number-requires : tie.Need-number-requires
 number-requires c κs = search needs
