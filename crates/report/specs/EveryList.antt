@@ -1,4 +1,4 @@
--- What holds of a whole list, however its text comes: all that is printed is on the page, and a list prints what its lines do, one after the other.
+-- What holds of every list, however its text comes: all that is printed is on the page, and a list prints what its lines do, one after the other.
 use mathlib.Core.Bool.{cond}
 use mathlib.Core.List.{List, [], _∷_, _++_}
 use mathlib.Core.Path.{_≡_}
@@ -13,7 +13,7 @@ use Rattle.text.specs.Written.{written}
 pub record OnThePage (print : List ℕ) : Type 0 where
   pub all-there : (page : List ℕ) → length page ≡ 16384 → written (page, 0) print ≡ (print ++ drop (length print) page, length print)
 
-pub record Whole : Type 0 where
+pub record EveryList : Type 0 where
   pub on-the-page : (line : List ℕ) (r : Report) → OnThePage (reply line r .print)
   pub last-on-the-page : (line : List ℕ) (r : Report) → OnThePage (lastReply line r .print)
   -- a line that has a line feed behind it: what it prints, and then, unless it ends the report, what the rest does

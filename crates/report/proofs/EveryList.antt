@@ -1,4 +1,4 @@
--- What holds of a whole list.
+-- What holds of every list.
 -- Assumes nothing.
 use mathlib.Core.Bool.{Bool, true, false, cond, not}
 use mathlib.Core.List.{List, [], _∷_, _++_}
@@ -10,7 +10,7 @@ use lib.Dec.{eqb}
 use lib.ListN.{length, getD, take, drop}
 use lib.Seq.{length-take-le}
 use Rattle.report.specs.Report.{before, linesOf, printed, reply, replyTo, lastReply}
-use Rattle.report.specs.Whole.{OnThePage, Whole}
+use Rattle.report.specs.EveryList.{OnThePage, EveryList}
 use Rattle.report.specs.declared.Report.{Report}
 use Rattle.report.proofs.Bounds.{reply-le, last-le}
 use Rattle.steps.specs.Lines.{stepOf}
@@ -87,8 +87,8 @@ too-long line n r long has =
     ap (λ step. replyTo step r)
     (shorter (r .started) (take n line) (omega (arith, length-take-le n line has, long)) ∙ sym (shorter (r .started) line (omega (arith, long, has))))
 
-pub whole : Whole
-whole =
+pub every-list : EveryList
+every-list =
     record {
       on-the-page = λ line r. on-it (reply line r .print) (omega (arith, reply-le line r));
       last-on-the-page = λ line r. on-it (lastReply line r .print) (last-le line r);
