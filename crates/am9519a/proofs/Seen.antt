@@ -11,20 +11,17 @@ use Rattle.refusal.specs.Numbers.{verdictNumber, isAccepted, firstOf}
 use Rattle.refusal.specs.declared.Refusal.the-variants.{NotSound}
 use Rattle.refusal.specs.declared.Verdict.{Verdict}
 use Rattle.refusal.specs.declared.Verdict.the-variants.{Refused}
+use Rattle.chain.proofs.Rules.{rules}
+use Rattle.chain.specs.Fields.{zeroChain}
 use Rattle.chain.specs.Refusals.{notSound, noSuchChip}
+use Rattle.chain.specs.declared.Chain.{Chain}
 use Rattle.views.specs.Views.{viewVerdict}
 use Rattle.image.specs.Layout.{over}
 use Rattle.image.specs.Reading.{chainIn, isImage}
-use Rattle.am9519a.specs.Calls.{shortBuffer, called, viewed, viewCheck}
-
--- what is no image is refused by 1
-pub no-image : (n : ℕ) (image : List ℕ) (chip : ℕ) (view new : List ℕ) → isImage image ≡ false →
-    called (viewCheck n image chip view) view new ≡ record { number = 1; buffer = view }
-unfolding called
-no-image n image chip view new off = simp off
+use Rattle.am9519a.specs.Calls.{shortBuffer, called, chainOf, viewed, viewCheck}
 
 -- of an image the view's own verdict comes first, then the room for its bytes; `none` is what a refused view has in the place of what it shows
-pub of-image : {A : Type 0} (bytes : A → List ℕ) (shown none : A) (n : ℕ) (image : List ℕ) (chip : ℕ) (view : List ℕ) →
+of-image : {A : Type 0} (bytes : A → List ℕ) (shown none : A) (n : ℕ) (image : List ℕ) (chip : ℕ) (view : List ℕ) →
     length (bytes shown) ≡ n → isImage image ≡ true →
     viewed (viewVerdict chip (chainIn image)) (bytes (cond (isAccepted (viewVerdict chip (chainIn image))) shown none)) view
     ≡ called (viewCheck n image chip view) view (over view 0 (bytes shown))
@@ -43,6 +40,23 @@ of-image bytes shown none n image chip view long on = either (isAccepted (viewVe
         ap (λ is. cond (not is) (Refused NotSound) (firstOf (notSound (chainIn image) ∷ noSuchChip chip (chainIn image) ∷ shortBuffer n view ∷ []))) on
         ∙ refused-already (notSound (chainIn image) ∷ noSuchChip chip (chainIn image) ∷ []) (shortBuffer n view ∷ []) ok in
         simp (stops, ok)
+
+-- and what is no image is refused by 1, as a chain that is not sound is
+pub in-image : {A : Type 0} (bytes : A → List ℕ) (shown : Chain → A) (none : A) (n : ℕ) (image : List ℕ) (chip : ℕ) (view : List ℕ) →
+    length (bytes (shown (chainIn image))) ≡ n →
+    viewed (viewVerdict chip (chainOf image)) (bytes (cond (isAccepted (viewVerdict chip (chainOf image))) (shown (chainOf image)) none)) view
+    ≡ called (viewCheck n image chip view) view (over view 0 (bytes (shown (chainIn image))))
+unfolding viewed called rules
+in-image bytes shown none n image chip view long = either (isImage image) refl
+  where
+    chain : Bool → Chain
+    chain is = cond is (chainIn image) zeroChain
+
+    either : (is : Bool) → isImage image ≡ is →
+        viewed (viewVerdict chip (chain is)) (bytes (cond (isAccepted (viewVerdict chip (chain is))) (shown (chain is)) none)) view
+        ≡ called (viewCheck n image chip view) view (over view 0 (bytes (shown (chainIn image))))
+    either true on = of-image bytes (shown (chainIn image)) none n image chip view long on
+    either false off = simp off
 
 -- a view that is refused hands back its own number; room that is short is refused by 11
 pub view-refused : (verdict : Verdict) (bytes view : List ℕ) → isAccepted verdict ≡ false → viewed verdict bytes view ≡ record { number = verdictNumber verdict; buffer = view }

@@ -5,6 +5,7 @@ mod shown;
 ghost use mathlib.Core.Path.{_≡_};
 ghost use Rattle.search.specs.Candidate.{searchNumber};
 ghost use Rattle.am9519a.specs.Calls.{startCall, runCall, registersCall, pinsCall};
+use crate::shown::chain_of;
 use crate::shown::picture_bytes;
 use crate::shown::put_view;
 use crate::shown::table_bytes;
@@ -78,10 +79,7 @@ pub extern "C" fn am9519a_registers(image: &[u8], chip: u8, view: &mut [u8]) -> 
     ensures { λ r. ⌜ r ≡ registersCall (now (image .entry)) chip (now (view .entry)) .number ⌝ }
     ensures { λ _. ⌜ now (view .exit) ≡ registersCall (now (image .entry)) chip (now (view .entry)) .buffer ⌝ }
 {
-    if !image::is_image(image) {
-        return 1;
-    }
-    let seen = register_view(chain_in(image), chip);
+    let seen = register_view(chain_of(image), chip);
     let verdict = seen.verdict;
     let table = seen.table;
     let bytes = table_bytes(table);
@@ -94,10 +92,7 @@ pub extern "C" fn am9519a_pins(image: &[u8], chip: u8, view: &mut [u8]) -> u8
     ensures { λ r. ⌜ r ≡ pinsCall (now (image .entry)) chip (now (view .entry)) .number ⌝ }
     ensures { λ _. ⌜ now (view .exit) ≡ pinsCall (now (image .entry)) chip (now (view .entry)) .buffer ⌝ }
 {
-    if !image::is_image(image) {
-        return 1;
-    }
-    let seen = pin_view(chain_in(image), chip);
+    let seen = pin_view(chain_of(image), chip);
     let verdict = seen.verdict;
     let picture = seen.picture;
     let bytes = picture_bytes(picture);

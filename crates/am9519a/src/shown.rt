@@ -1,10 +1,24 @@
-// The bytes of a view, and a view into a lent buffer.
+// The chain that a view is of, the bytes of a view, and a view into a lent buffer.
 ghost use mathlib.Core.Path.{_≡_};
-ghost use Rattle.am9519a.specs.Calls.{viewed, tableBytes, pictureBytes};
+ghost use Rattle.am9519a.specs.Calls.{chainOf, viewed, tableBytes, pictureBytes};
+use chain::Chain;
+use image::reading::chain_in;
 use image::writing::put_bytes;
 use refusal::Verdict;
 use views::Pins;
 use views::Registers;
+
+// The chain in an image; where there is none, one that is not sound, so that both are refused by 1.
+pub(crate) fn chain_of(image: &[u8]) -> Chain
+    ensures { λ r. ⌜ r ≡ chainOf (now (image .entry)) ⌝ }
+{
+    if image::is_image(image) {
+        chain_in(image)
+    } else {
+        let none = Chain::start(0, 0);
+        none.chain
+    }
+}
 
 // A register view's nine bytes.
 pub(crate) fn table_bytes(table: Registers) -> [u8; 9]

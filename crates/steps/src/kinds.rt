@@ -9,6 +9,7 @@ use text::tables::put_line;
 
 // The kind of the start, and the number of kinds.
 pub const START: u8 = 0;
+
 pub const KINDS: u8 = 9;
 
 // The names, each in the line of its kind.

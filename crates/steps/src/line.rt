@@ -112,7 +112,11 @@ fn argument_end(argument: Argument, line: &[u8]) -> usize
     ensures { λ r. ⌜ r ≤ length (now (line .entry)) ⌝ }
     ensures { λ r. ⌜ r ≡ argumentEnd argument (now (line .entry)) ⌝ }
 {
-    if argument.number() == 7 { 0 } else { word_end(line) }
+    if argument.number() == 7 {
+        0
+    } else {
+        word_end(line)
+    }
 }
 
 // What the first word of a line says as an argument.

@@ -1,26 +1,15 @@
 -- `am9519a::am9519a_pins` meets its contract.
 -- Assumes nothing.
-use mathlib.Core.Path.{refl, sym, ap, _∙_}
-use borrow.Author.Needs.{needs}
-use borrow.Author.Tests.{not-true, not-false}
-use Rattle.views.specs.Views.{noPicture, pinView}
-use Rattle.image.proofs.OneToOne.{image-length}
+use mathlib.Core.Path.{refl, ap, _∙_}
+use Rattle.views.specs.Views.{pictureOf, noPicture, pinView}
 use Rattle.am9519a.specs.Calls.{pictureBytes, viewed, pinsCall}
-use Rattle.am9519a.proofs.Seen.{no-image, of-image}
+use Rattle.am9519a.proofs.Seen.{in-image}
+use borrow.Author.Needs.{needs}
 use Rattle.am9519a.proofs.am9519a_pins.Statement.{statement}
 use Rattle.am9519a.proofs.am9519a_pins.Tie as tie
 
-is-image-requires : tie.Need-is-image-requires
-is-image-requires c κs = search needs
-
-returns : tie.Need-returns
-unfolding pinsCall
-returns c =
-    let told = no-image 8 (c .before .before .before .before .args .image .now) (c .before .before .before .before .args .chip) (c .before .before .before .before .args .view .now) _ (sym (c .before .is-image .ensures) ∙ not-true (c .before .is-image .result) (c .if1 .taken)) in
-    (sym (ap (λ r. r .number) told), sym (ap (λ r. r .buffer) told))
-
-chain-in-requires : tie.Need-chain-in-requires
-chain-in-requires c κs = image-length (c .before .before .before .before .args .image .now) (sym (c .before .is-image .ensures) ∙ not-false (c .before .is-image .result) (c .if1 .left))
+chain-of-requires : tie.Need-chain-of-requires
+chain-of-requires c κs = search needs
 
 pin-view-requires : tie.Need-pin-view-requires
 pin-view-requires c κs = search needs
@@ -37,25 +26,23 @@ put-view-requires c κs = search needs
 same-length : tie.Need-same-length
 same-length c = search needs
 
-returns-2 : tie.Need-returns-2
+returns : tie.Need-returns
 unfolding pinsCall pinView
-returns-2 c =
+returns c =
     let told =
-    ap (λ bytes. viewed (c .before .before .before .before .before .before .before .pin-view .result .verdict) bytes (c .before .before .before .before .before .before .before .before .before .before .before .before .before .args .view .now)) (c .before .before .before .before .before .picture-bytes .ensures)
-    ∙ ap (λ seen. viewed (seen .verdict) (pictureBytes (seen .picture)) (c .before .before .before .before .before .before .before .before .before .before .before .before .before .args .view .now)) (c .before .before .before .before .before .before .before .pin-view .ensures ∙ ap (pinView (c .before .before .before .before .before .before .before .before .before .before .before .before .before .args .chip)) (c .before .before .before .before .before .before .before .before .chain-in .ensures))
-    ∙ of-image pictureBytes _ noPicture 8 (c .before .before .before .before .before .before .before .before .before .before .before .before .before .args .image .now) (c .before .before .before .before .before .before .before .before .before .before .before .before .before .args .chip) (c .before .before .before .before .before .before .before .before .before .before .before .before .before .args .view .now) refl (sym (c .before .before .before .before .before .before .before .before .before .before .is-image .ensures) ∙ not-false (c .before .before .before .before .before .before .before .before .before .before .is-image .result) (c .before .before .before .before .before .before .before .before .before .if1 .left)) in
+    ap (λ bytes. viewed (c .before .before .before .before .before .before .before .pin-view .result .verdict) bytes (c .before .before .before .before .before .before .before .before .before .before .before .args .view .now)) (c .before .before .before .before .before .picture-bytes .ensures)
+    ∙ ap (λ seen. viewed (seen .verdict) (pictureBytes (seen .picture)) (c .before .before .before .before .before .before .before .before .before .before .before .args .view .now)) (c .before .before .before .before .before .before .before .pin-view .ensures ∙ ap (pinView (c .before .before .before .before .before .before .before .before .before .before .before .args .chip)) (c .before .before .before .before .before .before .before .before .chain-of .ensures))
+    ∙ in-image pictureBytes (pictureOf (c .before .before .before .before .before .before .before .before .before .before .before .args .chip)) noPicture 8 (c .before .before .before .before .before .before .before .before .before .before .before .args .image .now) (c .before .before .before .before .before .before .before .before .before .before .before .args .chip) (c .before .before .before .before .before .before .before .before .before .before .before .args .view .now) refl in
     (c .before .before .put-view .ensures .0 ∙ ap (λ r. r .number) told, c .before .before .put-view .ensures .1 ∙ ap (λ r. r .buffer) told)
 
 pub am9519a-pins-spec : {M : Type 1} → statement M
 am9519a-pins-spec =
     tie.close
     (tie.spec
-    is-image-requires
-    returns
-    chain-in-requires
+    chain-of-requires
     pin-view-requires
     picture-bytes-requires
     slice-aggregate-put-view
     put-view-requires
     same-length
-    returns-2)
+    returns)

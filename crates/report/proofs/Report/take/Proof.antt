@@ -47,7 +47,7 @@ ends-requires c κs = search needs
 
 returns : tie.Need-returns
 unfolding reply replyTo
-returns c = 
+returns c =
     retold (replyTo Nothing (c .before .before .before .before .before .before .args .self)) _ (c .before .before .before .before .before .before .args .page .now) _ _
     (ap (λ s. replyTo s (c .before .before .before .before .before .before .args .self)) (sym (c .before .enum-told .given .1) ∙ c .before .before .before .step-of .ensures))
     (ap (λ t. t .report) (c .goes-on .ensures), (ap (λ t. t .ended) (c .goes-on .ensures), ap (λ t. (c .before .before .before .before .before .before .args .page .now, t .length)) (c .goes-on .ensures) ∙ sym (written-none (c .before .before .before .before .before .before .args .page .now, 0))))
@@ -57,7 +57,7 @@ same-length c = search needs
 
 returns-2 : tie.Need-returns-2
 unfolding reply replyTo
-returns-2 c = 
+returns-2 c =
     retold _ _ (c .before .before .before .before .before .before .before .before .before .before .before .args .page .now) _ _
     (ap (λ o. stepReply 0 (o .answer) (o .chain) (c .before .before .before .before .before .before .before .before .before .before .before .args .self)) (c .before .before .before .before .start .ensures)
     ∙ ap (λ s. replyTo s (c .before .before .before .before .before .before .before .before .before .before .before .args .self)) (sym (c .before .before .before .before .before .before .step .given .1) ∙ c .before .before .before .before .before .before .before .before .step-of .ensures))
@@ -68,7 +68,7 @@ same-length-2 c = search needs
 
 returns-3 : tie.Need-returns-3
 unfolding reply replyTo
-returns-3 c = 
+returns-3 c =
     retold _ _ (c .before .before .before .before .before .before .before .before .before .before .before .args .page .now) _ _
     (ap (λ o. stepReply (c .before .before .before .before .before .before .step2 .given .0 .0) (o .answer) (o .chain) (c .before .before .before .before .before .before .before .before .before .before .before .args .self)) (c .before .before .before .before .on .ensures)
     ∙ ap (λ s. replyTo s (c .before .before .before .before .before .before .before .before .before .before .before .args .self)) (sym (c .before .before .before .before .before .before .step2 .given .1) ∙ c .before .before .before .before .before .before .before .before .step-of .ensures))
@@ -79,7 +79,7 @@ same-length-3 c = search needs
 
 returns-4 : tie.Need-returns-4
 unfolding reply replyTo
-returns-4 c = 
+returns-4 c =
     retold _ _ (c .before .before .before .before .before .before .before .before .before .before .before .args .page .now) _ _
     (ap (λ s. replyTo s (c .before .before .before .before .before .before .before .before .before .before .before .args .self)) (sym (c .before .before .before .before .before .before .step3 .given .1) ∙ c .before .before .before .before .before .before .before .before .step-of .ensures))
     (ap (λ t. t .report) (c .ends .ensures), (ap (λ t. t .ended) (c .ends .ensures), ap (λ t. (c .before .before .before .put-malformed .last .0, t .length)) (c .ends .ensures) ∙ c .before .before .before .put-malformed .ensures))

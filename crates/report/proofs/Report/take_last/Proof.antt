@@ -29,7 +29,7 @@ same-length-2 c = search needs
 
 returns-2 : tie.Need-returns-2
 unfolding lastReply
-returns-2 c = 
+returns-2 c =
     retold _ _ (c .before .before .before .before .before .before .before .before .before .before .args .page .now) _ _
     (sym (whole (reply (c .before .before .before .before .before .before .before .before .before .before .args .line .now) (c .before .before .before .before .before .before .before .before .before .before .args .self)) (c .before .before .before .before .before .before .before .before .before .before .args .self .line) (sym (c .before .before .before .before .before .before .take .ensures .1 .0) ∙ c .before .before .before .if1 .left) (sym (ap (λ r. r .started) (c .before .before .before .before .before .before .take .ensures .0)) ∙ c .before .if2 .taken)))
     (ap (λ t. t .report) (c .ends .ensures) ∙ c .before .before .before .before .before .before .take .ensures .0, (ap (λ t. t .ended) (c .ends .ensures), ap (λ t. (c .before .before .before .before .before .before .take .last .1 .1 .0, t .length)) (c .ends .ensures) ∙ c .before .before .before .before .before .before .take .ensures .1 .1))
@@ -45,17 +45,16 @@ same-length-3 c = search needs
 
 returns-3 : tie.Need-returns-3
 unfolding lastReply
-returns-3 c = 
+returns-3 c =
     retold _ _ (c .before .before .before .before .before .before .before .before .before .before .before .before .before .before .args .page .now) _ _
-    (sym (lacks (reply (c .before .before .before .before .before .before .before .before .before .before .before .before .before .before .args .line .now) (c .before .before .before .before .before .before .before .before .before .before .before .before .before .before .args .self)) (c .before .before .before .before .before .before .before .before .before .before .before .before .before .before .args .self .line) (sym (c .before .before .before .before .before .before .before .before .before .before .take .ensures .1 .0) ∙ c .before .before .before .before .before .before .before .if1 .left) (sym (ap (λ r. r .started) (c .before .before .before .before .before .before .before .before .before .before .take .ensures .0)) ∙ c .before .before .before .before .before .if2 .left)))
-    (
+    (sym (lacks (reply (c .before .before .before .before .before .before .before .before .before .before .before .before .before .before .args .line .now) (c .before .before .before .before .before .before .before .before .before .before .before .before .before .before .args .self)) (c .before .before .before .before .before .before .before .before .before .before .before .before .before .before .args .self .line) (sym (c .before .before .before .before .before .before .before .before .before .before .take .ensures .1 .0) ∙ c .before .before .before .before .before .before .before .if1 .left) (sym (ap (λ r. r .started) (c .before .before .before .before .before .before .before .before .before .before .take .ensures .0)) ∙ c .before .before .before .before .before .if2 .left))) (
       ap (λ t. t .report) (c .ends2 .ensures) ∙ c .before .before .before .before .before .before .before .before .before .before .take .ensures .0,
       (
         ap (λ t. t .ended) (c .ends2 .ensures),
         ap (λ t. (c .before .before .before .put-malformed .last .0, t .length)) (c .ends2 .ensures)
-        ∙ c .before .before .before .put-malformed .ensures
-        ∙ again _ (c .before .before .before .before .before .before .before .before .before .before .take .ensures .1 .1)
-        ∙ sym (written-append (c .before .before .before .before .before .before .before .before .before .before .before .before .before .before .args .page .now, 0) (reply (c .before .before .before .before .before .before .before .before .before .before .before .before .before .before .args .line .now) (c .before .before .before .before .before .before .before .before .before .before .before .before .before .before .args .self) .print) (malformedLine (c .before .before .before .before .before .before .before .before .before .before .before .before .before .before .args .self .line) TheStart)),
+            ∙ c .before .before .before .put-malformed .ensures
+            ∙ again _ (c .before .before .before .before .before .before .before .before .before .before .take .ensures .1 .1)
+            ∙ sym (written-append (c .before .before .before .before .before .before .before .before .before .before .before .before .before .before .args .page .now, 0) (reply (c .before .before .before .before .before .before .before .before .before .before .before .before .before .before .args .line .now) (c .before .before .before .before .before .before .before .before .before .before .before .before .before .before .args .self) .print) (malformedLine (c .before .before .before .before .before .before .before .before .before .before .before .before .before .before .args .self .line) TheStart)),
       ),
     )
 

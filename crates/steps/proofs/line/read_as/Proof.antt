@@ -68,7 +68,7 @@ step-from-requires c κs = search needs
 
 returns : tie.Need-returns
 unfolding readAs readBy
-returns c = 
+returns c =
     let f : Form = c .before .before .before .before .before .before .before .before .before .before .before .form-of .result in
     let l : List ℕ = c .before .before .before .before .before .before .before .before .before .before .before .before .before .args .rest .now in
     let l1 : List ℕ = take (length l - c .before .before .before .before .before .before .before .before .before .before .argument-end .result) (drop (c .before .before .before .before .before .before .before .before .before .before .argument-end .result) l) in

@@ -52,7 +52,7 @@ step-named-requires c κs = search needs
 
 returns-2 : tie.Need-returns-2
 unfolding stepIn
-returns-2 c = 
+returns-2 c =
     let l : List ℕ = c .before .before .before .before .before .before .before .before .before .args .line .now in
     let found = the-word l (c .before .before .before .before .before .word-start .result) (c .before .before .before .before .word-end .result) (c .before .before .before .before .before .word-start .ensures .1) (c .before .before .before .before .word-end .ensures .1 .1) in
     let rest = the-rest l (c .before .before .before .before .word-end .result) (c .before .before .before .before .word-end .ensures .1 .1) in
