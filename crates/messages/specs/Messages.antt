@@ -1,5 +1,5 @@
 -- What is said where a list ends before its last line: a refusal, or what should have stood there.
-use mathlib.Core.List.{List, [], _∷_}
+use mathlib.Core.List.{List, [], _∷_, _++_}
 use Prim.Native.Nat.{ℕ}
 use Rattle.refusal.specs.Numbers.{refusalNumber}
 use Rattle.refusal.specs.declared.Refusal.{Refusal}
@@ -28,7 +28,15 @@ slot argument = lineIn (argumentNumber argument) slots
 
 -- what to write for each
 abbrev pub helps : List ℕ
-helps = text " (how many chips, decimal, 1 to 8)\n (the byte in the response memory at power-up, one or two hex digits)\n (a chip's number, decimal, 0 for the first)\n (a command, one or two hex digits)\n (a byte, one or two hex digits)\n (a channel's number, decimal, 0 to 7)\n (a level, 0 or 1)\n the end of the line, or a comment with #"
+helps =
+    text " (how many chips, decimal, 1 to 8)\n"
+    ++ text " (the byte in the response memory at power-up, one or two hex digits)\n"
+    ++ text " (a chip's number, decimal, 0 for the first)\n"
+    ++ text " (a command, one or two hex digits)\n"
+    ++ text " (a byte, one or two hex digits)\n"
+    ++ text " (a channel's number, decimal, 0 to 7)\n"
+    ++ text " (a level, 0 or 1)\n"
+    ++ text " the end of the line, or a comment with #"
 
 unfoldable pub help : Argument → List ℕ
 help argument = lineIn (argumentNumber argument) helps

@@ -12,11 +12,19 @@ use text::put::put;
 use text::put::put_field;
 use text::tables::put_line;
 
-// The arguments' names, and what to write for each, in the line of its number.
+// The arguments' names, each in the line of its number.
 const SLOTS: [u8; 47] = *b" COUNT\n FILL\n CHIP\n CODE\n BYTE\n CHANNEL\n LEVEL\n";
 
-const HELPS: [u8; 318] =
-    *b" (how many chips, decimal, 1 to 8)\n (the byte in the response memory at power-up, one or two hex digits)\n (a chip's number, decimal, 0 for the first)\n (a command, one or two hex digits)\n (a byte, one or two hex digits)\n (a channel's number, decimal, 0 to 7)\n (a level, 0 or 1)\n the end of the line, or a comment with #";
+// What to write for each.
+const HELPS: [u8; 318] = *b"\
+    \x20(how many chips, decimal, 1 to 8)\n\
+    \x20(the byte in the response memory at power-up, one or two hex digits)\n\
+    \x20(a chip's number, decimal, 0 for the first)\n\
+    \x20(a command, one or two hex digits)\n\
+    \x20(a byte, one or two hex digits)\n\
+    \x20(a channel's number, decimal, 0 to 7)\n\
+    \x20(a level, 0 or 1)\n\
+    \x20the end of the line, or a comment with #";
 
 // line L KIND refused R
 pub fn put_refused(to: &mut [u8], at: usize, line: u64, kind: u8, why: Refusal) -> usize

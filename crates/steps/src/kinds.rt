@@ -7,9 +7,10 @@ use crate::Form;
 use text::tables::place_in;
 use text::tables::put_line;
 
-// The kind of the start, and the number of kinds.
+// The kind of the start.
 pub const START: u8 = 0;
 
+// How many kinds there are.
 pub const KINDS: u8 = 9;
 
 // The names, each in the line of its kind.
