@@ -6,99 +6,67 @@ use mathlib.Core.Path.{_≡_, refl, sym, ap, _∙_}
 use Prim.Native.Nat.{ℕ, _≤_, _<_}
 use lib.ListN.{length}
 use borrow.Author.Tests.{lt-ltb, le-ltb}
-use Rattle.refusal.proofs.Numbers.{not-both, refused-already, accepted-so-far}
-use Rattle.refusal.specs.Numbers.{refusalNumber, isAccepted, firstOf}
-use Rattle.refusal.specs.declared.Refusal.{Refusal}
-use Rattle.refusal.specs.declared.Refusal.the-variants.{NotSound, ShortResults}
+use Rattle.refusal.proofs.Numbers.{refused-already, accepted-so-far}
+use Rattle.refusal.specs.Numbers.{verdictNumber, isAccepted, firstOf}
+use Rattle.refusal.specs.declared.Refusal.the-variants.{NotSound}
 use Rattle.refusal.specs.declared.Verdict.{Verdict}
-use Rattle.refusal.specs.declared.Verdict.the-variants.{Accepted, Refused}
+use Rattle.refusal.specs.declared.Verdict.the-variants.{Refused}
+use Rattle.chain.proofs.Rules.{rules}
+use Rattle.chain.specs.Fields.{zeroChain}
 use Rattle.chain.specs.Refusals.{notSound, noSuchChip}
-use Rattle.chain.specs.Views.{tableOr, pictureOr, viewVerdict}
-use Rattle.chain.specs.declared.PinView.{PinView}
-use Rattle.chain.specs.declared.PinView.the-variants.{Picture, NoPicture}
-use Rattle.chain.specs.declared.Pins.{Pins}
-use Rattle.chain.specs.declared.RegisterView.{RegisterView}
-use Rattle.chain.specs.declared.RegisterView.the-variants.{Table, NoTable}
-use Rattle.chain.specs.declared.Registers.{Registers}
+use Rattle.chain.specs.declared.Chain.{Chain}
+use Rattle.views.specs.Views.{viewVerdict}
+use Rattle.image.specs.Layout.{over}
 use Rattle.image.specs.Reading.{chainIn, isImage}
-use Rattle.am9519a.specs.Calls.{shortBuffer, called, viewCheck}
+use Rattle.am9519a.specs.Calls.{shortBuffer, called, chainOf, viewed, viewCheck}
 
--- what is no image is refused by 1
-pub no-image : (n : ℕ) (image : List ℕ) (chip : ℕ) (view new : List ℕ) → isImage image ≡ false →
-    called (viewCheck n image chip view) view new ≡ record { number = 1; buffer = view }
-unfolding called
-no-image n image chip view new off = simp off
+-- of an image the view's own verdict comes first, then the room for its bytes; `none` is what a refused view has in the place of what it shows
+of-image : {A : Type 0} (bytes : A → List ℕ) (shown none : A) (n : ℕ) (image : List ℕ) (chip : ℕ) (view : List ℕ) →
+    length (bytes shown) ≡ n → isImage image ≡ true →
+    viewed (viewVerdict chip (chainIn image)) (bytes (cond (isAccepted (viewVerdict chip (chainIn image))) shown none)) view
+    ≡ called (viewCheck n image chip view) view (over view 0 (bytes shown))
+unfolding viewed called
+of-image bytes shown none n image chip view long on = either (isAccepted (viewVerdict chip (chainIn image))) refl
+  where
+    either : (ok : Bool) → isAccepted (viewVerdict chip (chainIn image)) ≡ ok →
+        viewed (viewVerdict chip (chainIn image)) (bytes (cond ok shown none)) view ≡ called (viewCheck n image chip view) view (over view 0 (bytes shown))
+    either true ok =
+        let goes-on : viewCheck n image chip view ≡ firstOf (shortBuffer n view ∷ []) =
+        ap (λ is. cond (not is) (Refused NotSound) (firstOf (notSound (chainIn image) ∷ noSuchChip chip (chainIn image) ∷ shortBuffer n view ∷ []))) on
+        ∙ accepted-so-far (notSound (chainIn image) ∷ noSuchChip chip (chainIn image) ∷ []) (shortBuffer n view ∷ []) ok in
+        simp (ok, long, goes-on)
+    either false ok =
+        let stops : viewCheck n image chip view ≡ viewVerdict chip (chainIn image) =
+        ap (λ is. cond (not is) (Refused NotSound) (firstOf (notSound (chainIn image) ∷ noSuchChip chip (chainIn image) ∷ shortBuffer n view ∷ []))) on
+        ∙ refused-already (notSound (chainIn image) ∷ noSuchChip chip (chainIn image) ∷ []) (shortBuffer n view ∷ []) ok in
+        simp (stops, ok)
 
--- a view that is refused is refused by its own refusal
-pub view-stops : (n : ℕ) (image : List ℕ) (chip : ℕ) (view new : List ℕ) (why : Refusal) → isImage image ≡ true →
-    viewVerdict chip (chainIn image) ≡ Refused why → called (viewCheck n image chip view) view new ≡ record { number = refusalNumber why; buffer = view }
-unfolding called
-view-stops n image chip view new why on stops =
-    let later : firstOf (notSound (chainIn image) ∷ noSuchChip chip (chainIn image) ∷ shortBuffer n view ∷ []) ≡ Refused why =
-    refused-already (notSound (chainIn image) ∷ noSuchChip chip (chainIn image) ∷ []) (shortBuffer n view ∷ []) (ap isAccepted stops) ∙ stops in
-    let first : viewCheck n image chip view ≡ Refused why = ap (λ is. cond (not is) (Refused NotSound) (firstOf (notSound (chainIn image) ∷ noSuchChip chip (chainIn image) ∷ shortBuffer n view ∷ []))) on ∙ later in
-    ap (λ verdict. called verdict view new) first
+-- and what is no image is refused by 1, as a chain that is not sound is
+pub in-image : {A : Type 0} (bytes : A → List ℕ) (shown : Chain → A) (none : A) (n : ℕ) (image : List ℕ) (chip : ℕ) (view : List ℕ) →
+    length (bytes (shown (chainIn image))) ≡ n →
+    viewed (viewVerdict chip (chainOf image)) (bytes (cond (isAccepted (viewVerdict chip (chainOf image))) (shown (chainOf image)) none)) view
+    ≡ called (viewCheck n image chip view) view (over view 0 (bytes (shown (chainIn image))))
+unfolding viewed called rules
+in-image bytes shown none n image chip view long = either (isImage image) refl
+  where
+    chain : Bool → Chain
+    chain is = cond is (chainIn image) zeroChain
 
--- one that is accepted asks for room
-pub view-goes-on : (n : ℕ) (image : List ℕ) (chip : ℕ) (view new : List ℕ) → isImage image ≡ true →
-    viewVerdict chip (chainIn image) ≡ Accepted → called (viewCheck n image chip view) view new ≡ called (firstOf (shortBuffer n view ∷ [])) view new
-view-goes-on n image chip view new on passes =
-    let first : viewCheck n image chip view ≡ firstOf (shortBuffer n view ∷ []) =
-    ap (λ is. cond (not is) (Refused NotSound) (firstOf (notSound (chainIn image) ∷ noSuchChip chip (chainIn image) ∷ shortBuffer n view ∷ []))) on
-    ∙ accepted-so-far (notSound (chainIn image) ∷ noSuchChip chip (chainIn image) ∷ []) (shortBuffer n view ∷ []) (ap isAccepted passes) in
-    ap (λ verdict. called verdict view new) first
+    either : (is : Bool) → isImage image ≡ is →
+        viewed (viewVerdict chip (chain is)) (bytes (cond (isAccepted (viewVerdict chip (chain is))) (shown (chain is)) none)) view
+        ≡ called (viewCheck n image chip view) view (over view 0 (bytes (shown (chainIn image))))
+    either true on = of-image bytes (shown (chainIn image)) none n image chip view long on
+    either false off = simp off
 
--- room that is short is refused by 11
-pub view-short : (n : ℕ) (view new : List ℕ) → length view < n → called (firstOf (shortBuffer n view ∷ [])) view new ≡ record { number = 11; buffer = view }
-unfolding called
-view-short n view new h = ap (λ short. called (cond short (Refused ShortResults) Accepted) view new) (lt-ltb (length view) n h)
+-- a view that is refused hands back its own number; room that is short is refused by 11
+pub view-refused : (verdict : Verdict) (bytes view : List ℕ) → isAccepted verdict ≡ false → viewed verdict bytes view ≡ record { number = verdictNumber verdict; buffer = view }
+unfolding viewed called
+view-refused verdict bytes view off = simp off
 
-pub view-fits : (n : ℕ) (view new : List ℕ) → n ≤ length view → called (firstOf (shortBuffer n view ∷ [])) view new ≡ record { number = 0; buffer = new }
-unfolding called
-view-fits n view new h = ap (λ short. called (cond short (Refused ShortResults) Accepted) view new) (le-ltb (length view) n h)
+pub view-short : (verdict : Verdict) (bytes view : List ℕ) → isAccepted verdict ≡ true → length view < length bytes → viewed verdict bytes view ≡ record { number = 11; buffer = view }
+unfolding viewed called
+view-short verdict bytes view on h = simp (on, lt-ltb (length view) (length bytes) h)
 
-abbrev is-table : RegisterView → Bool
-is-table (Table t) = true
-is-table (NoTable why) = false
-
-abbrev why-no-table : RegisterView → Verdict
-why-no-table (Table t) = Accepted
-why-no-table (NoTable why) = Refused why
-
-abbrev table-in : Registers → RegisterView → Registers
-table-in r (Table t) = t
-table-in r (NoTable why) = r
-
--- the verdict that a register view was given by, and its table
-pub table-told : (v : Verdict) (r t : Registers) → tableOr v r ≡ Table t → (v ≡ Accepted) × (r ≡ t)
-unfolding tableOr
-table-told Accepted r t e = (refl, ap (table-in r) e)
-table-told (Refused why) r t e = not-both (ap is-table e)
-
-pub no-table-told : (v : Verdict) (r : Registers) (why : Refusal) → tableOr v r ≡ NoTable why → v ≡ Refused why
-unfolding tableOr
-no-table-told Accepted r why e = not-both (sym (ap is-table e))
-no-table-told (Refused reason) r why e = ap why-no-table e
-
-abbrev is-picture : PinView → Bool
-is-picture (Picture p) = true
-is-picture (NoPicture why) = false
-
-abbrev why-no-picture : PinView → Verdict
-why-no-picture (Picture p) = Accepted
-why-no-picture (NoPicture why) = Refused why
-
-abbrev picture-in : Pins → PinView → Pins
-picture-in p (Picture q) = q
-picture-in p (NoPicture why) = p
-
--- the same for a pin view
-pub picture-told : (v : Verdict) (p q : Pins) → pictureOr v p ≡ Picture q → (v ≡ Accepted) × (p ≡ q)
-unfolding pictureOr
-picture-told Accepted p q e = (refl, ap (picture-in p) e)
-picture-told (Refused why) p q e = not-both (ap is-picture e)
-
-pub no-picture-told : (v : Verdict) (p : Pins) (why : Refusal) → pictureOr v p ≡ NoPicture why → v ≡ Refused why
-unfolding pictureOr
-no-picture-told Accepted p why e = not-both (sym (ap is-picture e))
-no-picture-told (Refused reason) p why e = ap why-no-picture e
+pub view-fits : (verdict : Verdict) (bytes view : List ℕ) → isAccepted verdict ≡ true → length bytes ≤ length view → viewed verdict bytes view ≡ record { number = 0; buffer = over view 0 bytes }
+unfolding viewed called
+view-fits verdict bytes view on h = simp (on, le-ltb (length view) (length bytes) h)

@@ -11,11 +11,13 @@ use Rattle.refusal.specs.declared.Refusal.the-variants.{NotSound, ShortResults}
 use Rattle.refusal.specs.declared.Verdict.{Verdict}
 use Rattle.refusal.specs.declared.Verdict.the-variants.{Refused}
 use Rattle.refusal.specs.Answers.{verdictIn}
+use Rattle.chain.specs.Fields.{zeroChain}
 use Rattle.chain.specs.Refusals.{notSound, noSuchChip}
 use Rattle.chain.specs.Start.{startOf}
-use Rattle.chain.specs.Views.{tableOf, pictureOf}
-use Rattle.chain.specs.declared.Pins.{Pins}
-use Rattle.chain.specs.declared.Registers.{Registers}
+use Rattle.chain.specs.declared.Chain.{Chain}
+use Rattle.views.specs.Views.{tableOf, pictureOf}
+use Rattle.views.specs.declared.Pins.{Pins}
+use Rattle.views.specs.declared.Registers.{Registers}
 use Rattle.run.specs.Run.{Report, brokenEvent, shortResults, runOf}
 use Rattle.image.specs.Layout.{imageOf, over}
 use Rattle.image.specs.Reading.{chainIn, isImage}
@@ -59,6 +61,15 @@ pictureBytes p =
 abbrev pub viewCheck : ℕ → List ℕ → ℕ → List ℕ → Verdict
 viewCheck n image chip view =
     firstOf (notAnImage image ∷ notSound (chainIn image) ∷ noSuchChip chip (chainIn image) ∷ shortBuffer n view ∷ [])
+
+-- the chain in an image; where there is none, one that is not sound
+abbrev pub chainOf : List ℕ → Chain
+chainOf image = cond (isImage image) (chainIn image) zeroChain
+
+-- what a view with its verdict leaves: its bytes, where the buffer has room for them
+unfoldable pub viewed : Verdict → List ℕ → List ℕ → Called
+viewed verdict bytes view =
+    called (cond (isAccepted verdict) (firstOf (shortBuffer (length bytes) view ∷ [])) verdict) view (over view 0 bytes)
 
 -- registers: the view's first nine bytes get the table of the chip
 unfoldable pub registersCall : List ℕ → ℕ → List ℕ → Called

@@ -1,19 +1,20 @@
 // The C interface: what the report generator, written in C, calls. include/am9519a.h declares it.
 // Every function takes any numbers and any bytes, and answers each: nothing is asked of a caller.
-mod views;
+mod shown;
 
 ghost use mathlib.Core.Path.{_≡_};
 ghost use Rattle.search.specs.Candidate.{searchNumber};
 ghost use Rattle.am9519a.specs.Calls.{startCall, runCall, registersCall, pinsCall};
-use crate::views::picture_bytes;
-use crate::views::put_view;
-use crate::views::table_bytes;
+use crate::shown::chain_of;
+use crate::shown::picture_bytes;
+use crate::shown::put_view;
+use crate::shown::table_bytes;
 use chain::Chain;
-use chain::PinView;
-use chain::RegisterView;
 use image::reading::chain_in;
 use image::writing::put_chain;
 use run::in_place::run_in;
+use views::pin_view;
+use views::register_view;
 
 // The candidate search over register numbers: the channel, 255 for no candidate, or 254 if the pointer is above 7.
 #[no_mangle]
@@ -78,17 +79,11 @@ pub extern "C" fn am9519a_registers(image: &[u8], chip: u8, view: &mut [u8]) -> 
     ensures { λ r. ⌜ r ≡ registersCall (now (image .entry)) chip (now (view .entry)) .number ⌝ }
     ensures { λ _. ⌜ now (view .exit) ≡ registersCall (now (image .entry)) chip (now (view .entry)) .buffer ⌝ }
 {
-    if !image::is_image(image) {
-        return 1;
-    }
-    let seen = chain_in(image).register_view(chip);
-    match seen {
-        RegisterView::Table(table) => {
-            let bytes = table_bytes(table);
-            put_view(view, &bytes)
-        }
-        RegisterView::NoTable(why) => why.number(),
-    }
+    let seen = register_view(chain_of(image), chip);
+    let verdict = seen.verdict;
+    let table = seen.table;
+    let bytes = table_bytes(table);
+    put_view(view, verdict, &bytes)
 }
 
 // The pin view of a chip.
@@ -97,15 +92,9 @@ pub extern "C" fn am9519a_pins(image: &[u8], chip: u8, view: &mut [u8]) -> u8
     ensures { λ r. ⌜ r ≡ pinsCall (now (image .entry)) chip (now (view .entry)) .number ⌝ }
     ensures { λ _. ⌜ now (view .exit) ≡ pinsCall (now (image .entry)) chip (now (view .entry)) .buffer ⌝ }
 {
-    if !image::is_image(image) {
-        return 1;
-    }
-    let seen = chain_in(image).pin_view(chip);
-    match seen {
-        PinView::Picture(picture) => {
-            let bytes = picture_bytes(picture);
-            put_view(view, &bytes)
-        }
-        PinView::NoPicture(why) => why.number(),
-    }
+    let seen = pin_view(chain_of(image), chip);
+    let verdict = seen.verdict;
+    let picture = seen.picture;
+    let bytes = picture_bytes(picture);
+    put_view(view, verdict, &bytes)
 }

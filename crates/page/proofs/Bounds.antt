@@ -1,41 +1,27 @@
 -- How long a page may be.
 -- Assumes nothing.
 use mathlib.Core.Bool.{Bool, true, false, cond}
-use mathlib.Core.List.{List, _++_}
+use mathlib.Core.List.{List, []}
 use mathlib.Core.Path.{_≡_, refl, _∙_}
 use Prim.Native.Nat.{ℕ, zero, suc, _+_, _*_, _≤_}
-use Prim.Native.String.{String}
 use native.Mathlib.Omega.{arith}
 use lib.Dec.{eqb}
 use lib.ListN.{length, length-append}
 use Rattle.chain.proofs.Soundness.{count-le}
-use Rattle.chain.specs.Pins.{gint}
 use Rattle.chain.specs.Sound.{sound}
-use Rattle.chain.specs.Views.{registerView, pinView, tableOr, pictureOr}
 use Rattle.refusal.specs.declared.Answer.{Answer}
 use Rattle.refusal.specs.declared.Answer.the-variants.{Done, Byte, Refused}
 use Rattle.chain.specs.declared.Chain.{Chain}
-use Rattle.chain.specs.declared.PinView.{PinView}
-use Rattle.chain.specs.declared.PinView.the-variants.{Picture, NoPicture}
-use Rattle.chain.specs.declared.RegisterView.{RegisterView}
-use Rattle.chain.specs.declared.RegisterView.the-variants.{Table, NoTable}
-use Rattle.page.specs.Page.{field, byteField, gintField, heading, chipPins, chainPins, pinsParts, requestBytes, stateFields, registersParts, pinsLine, registersLine, chipLines, chipsFrom, byteText, eventParts, pageOf}
-use Rattle.steps.specs.Kinds.{nameOf}
-use Rattle.steps.specs.declared.Kind.{Kind}
-use Rattle.steps.specs.declared.Kind.the-variants.{Start, Command, Data, Status, Read, Line, Enable, Fall, Rise}
-use Rattle.text.proofs.Fits.{decimal-le, joined-le}
-use Rattle.text.specs.Written.{text, decimal, hexByte, joined}
-
--- a name of at most twelve letters, and a number or a byte
-numbered-le : (name : List ℕ) (n : ℕ) → length name ≤ 12 → length (name ++ decimal n) ≤ 32
-numbered-le name n h = omega (arith, length-append name (decimal n), decimal-le n, h)
-
-pub field-le : (name : String) (n : ℕ) → length (text name) ≤ 12 → length (field name n) ≤ 32
-field-le name n h = numbered-le (text name) n h
-
-byte-le : (name : String) (byte : ℕ) → length (text name) ≤ 12 → length (byteField name byte) ≤ 32
-unfolding hexByte
-byte-le name byte h = omega (arith, length-append (text name) (hexByte byte), h)
+use Rattle.page.specs.Page.{gintField, heading, chipPins, chainPins, pinsParts, requestBytes, stateFields, registersParts, pinsLine, registersLine, chipLines, chipsFrom, byteText, eventParts, pageOf}
+use Rattle.refusal.specs.Numbers.{isAccepted}
+use Rattle.steps.proofs.Bounds.{name-le}
+use Rattle.text.proofs.Fits.{joined-le, numbered-le, field-le, byte-le}
+use Rattle.text.specs.Written.{text, joined, field}
+use Rattle.views.specs.Views.{registerView, pinView}
+use Rattle.views.specs.declared.PinView.{PinView}
+use Rattle.views.specs.declared.Pins.{Pins}
+use Rattle.views.specs.declared.RegisterView.{RegisterView}
+use Rattle.views.specs.declared.Registers.{Registers}
 
 gint-le : (g : ℕ) → length (gintField g) ≤ 32
 gint-le g = either (eqb g 2)
@@ -47,27 +33,33 @@ gint-le g = either (eqb g 2)
 heading-le : (name : List ℕ) (event i : ℕ) → length name ≤ 12 → length (joined (heading name event i)) ≤ 128
 heading-le name event i h = omega (arith, joined-le 32 (heading name event i) (numbered-le name event h, (field-le " chip " i (omega arith), tt)))
 
--- a line of a chip
+-- a line of a chip: its parts, or nothing
+or-nothing : (t : Bool) (line : List ℕ) → length line ≤ 512 → length (cond t line []) ≤ 512
+or-nothing true line h = h
+or-nothing false line h = omega arith
+
 pins-le : (i : ℕ) (v : PinView) → length (pinsLine i v) ≤ 512
 unfolding pinsLine
-pins-le i (Picture p) =
+pins-le i v =
+    let p : Pins = v .picture in
     let chip : length (joined (chipPins p)) ≤ 128 =
     omega (arith, joined-le 32 (chipPins p) (field-le " EI " (p .ei) (omega arith), (field-le " EO " (p .eo) (omega arith), (gint-le (p .gint), tt)))) in
     let chain : length (joined (chainPins p)) ≤ 128 =
     omega (arith, joined-le 32 (chainPins p) (field-le " RIP " (p .rip) (omega arith), (field-le " PAUSE " (p .pause) (omega arith), (field-le " IACK " (p .iack) (omega arith), tt)))) in
-    joined-le 128 (pinsParts i p) (heading-le (text "pins ") (p .event) i (omega arith), (chip, (chain, (omega arith, tt))))
-pins-le i (NoPicture why) = omega arith
+    or-nothing (isAccepted (v .verdict)) (joined (pinsParts i p))
+    (joined-le 128 (pinsParts i p) (heading-le (text "pins ") (p .event) i (omega arith), (chip, (chain, (omega arith, tt)))))
 
 registers-le : (i : ℕ) (v : RegisterView) → length (registersLine i v) ≤ 512
 unfolding registersLine
-registers-le i (Table r) =
+registers-le i v =
+    let r : Registers = v .table in
     let requests : length (joined (requestBytes r)) ≤ 128 =
     joined-le 32 (requestBytes r)
     (byte-le " IRR " (r .irr) (omega arith), (byte-le " ISR " (r .isr) (omega arith), (byte-le " IMR " (r .imr) (omega arith), (byte-le " ACR " (r .acr) (omega arith), tt)))) in
     let state : length (joined (stateFields r)) ≤ 128 =
     omega (arith, joined-le 32 (stateFields r) (byte-le " MODE " (r .mode) (omega arith), (byte-le " STATUS " (r .status) (omega arith), (field-le " WAITING " (r .waiting) (omega arith), tt)))) in
-    joined-le 128 (registersParts i r) (heading-le (text "registers ") (r .event) i (omega arith), (requests, (state, (omega arith, tt))))
-registers-le i (NoTable why) = omega arith
+    or-nothing (isAccepted (v .verdict)) (joined (registersParts i r))
+    (joined-le 128 (registersParts i r) (heading-le (text "registers ") (r .event) i (omega arith), (requests, (state, (omega arith, tt)))))
 
 -- the lines of some chips
 chips-le : (n i : ℕ) (s : Chain) → length (chipsFrom n i s) ≤ n * 1024
@@ -84,7 +76,7 @@ chips-le (suc n) i s =
 
 -- a chain that is not sound has no view
 no-line : (i : ℕ) (s : Chain) → sound s ≡ false → length (chipLines i s) ≡ 0
-unfolding pinView registerView pictureOr tableOr pinsLine registersLine
+unfolding pinView registerView pinsLine registersLine
 no-line i s is = simp (is)
 
 no-lines : (n i : ℕ) (s : Chain) → sound s ≡ false → length (chipsFrom n i s) ≡ 0
@@ -100,29 +92,20 @@ chips-all s = either (sound s) refl
     either true is = omega (arith, chips-le (s .count) 0 s, count-le s is)
     either false is = omega (arith, no-lines (s .count) 0 s is)
 
-pub name-le : (kind : Kind) → length (text (nameOf kind)) ≤ 32
-name-le Start = omega arith
-name-le Command = omega arith
-name-le Data = omega arith
-name-le Status = omega arith
-name-le Read = omega arith
-name-le Line = omega arith
-name-le Enable = omega arith
-name-le Fall = omega arith
-name-le Rise = omega arith
-
 answer-le : (answer : Answer) → length (byteText answer) ≤ 32
 answer-le Done = omega arith
 answer-le (Byte b) = byte-le " byte " b (omega arith)
 answer-le (Refused why) = omega arith
 
 -- a page
-pub page-le : (kind : Kind) (answer : Answer) (s : Chain) → length (pageOf kind answer s) ≤ 8384
+pub page-le : (kind : ℕ) (answer : Answer) (s : Chain) → length (pageOf kind answer s) ≤ 8576
 unfolding pageOf
 page-le kind answer s =
+    let name : length (field "event " (s .event)) ≤ 64 = omega (arith, field-le "event " (s .event) (omega arith)) in
+    let byte : length (byteText answer) ≤ 64 = omega (arith, answer-le answer) in
     omega (
       arith,
       length-append (joined (eventParts kind answer (s .event))) (chipsFrom (s .count) 0 s),
       chips-all s,
-      joined-le 32 (eventParts kind answer (s .event)) (field-le "event " (s .event) (omega arith), (omega arith, (name-le kind, (omega arith, (answer-le answer, (omega arith, tt)))))),
+      joined-le 64 (eventParts kind answer (s .event)) (name, (omega arith, (name-le kind, (omega arith, (byte, (omega arith, tt)))))),
     )

@@ -2,28 +2,18 @@
 use mathlib.Core.Bool.{cond}
 use mathlib.Core.List.{List, [], _∷_, _++_}
 use Prim.Native.Nat.{ℕ, zero, suc, _+_}
-use Prim.Native.String.{String}
 use lib.Dec.{eqb}
-use Rattle.chain.specs.Views.{registerView, pinView}
+use Rattle.refusal.specs.Numbers.{isAccepted}
 use Rattle.refusal.specs.declared.Answer.{Answer}
 use Rattle.refusal.specs.declared.Answer.the-variants.{Done, Byte, Refused}
 use Rattle.chain.specs.declared.Chain.{Chain}
-use Rattle.chain.specs.declared.PinView.{PinView}
-use Rattle.chain.specs.declared.PinView.the-variants.{Picture, NoPicture}
-use Rattle.chain.specs.declared.Pins.{Pins}
-use Rattle.chain.specs.declared.RegisterView.{RegisterView}
-use Rattle.chain.specs.declared.RegisterView.the-variants.{Table, NoTable}
-use Rattle.chain.specs.declared.Registers.{Registers}
 use Rattle.steps.specs.Kinds.{nameOf}
-use Rattle.steps.specs.declared.Kind.{Kind}
-use Rattle.text.specs.Written.{text, decimal, hexByte, joined}
-
--- a name, and a number in decimal or a byte in hex
-abbrev pub field : String → ℕ → List ℕ
-field name n = text name ++ decimal n
-
-abbrev pub byteField : String → ℕ → List ℕ
-byteField name byte = text name ++ hexByte byte
+use Rattle.text.specs.Written.{text, decimal, joined, field, byteField}
+use Rattle.views.specs.Views.{registerView, pinView}
+use Rattle.views.specs.declared.PinView.{PinView}
+use Rattle.views.specs.declared.Pins.{Pins}
+use Rattle.views.specs.declared.RegisterView.{RegisterView}
+use Rattle.views.specs.declared.Registers.{Registers}
 
 -- GINT is `z` where it is released
 abbrev pub gintField : ℕ → List ℕ
@@ -55,12 +45,10 @@ registersParts i r = joined (heading (text "registers ") (r .event) i) ∷ joine
 
 -- the two lines of chip i are its two views; a view that is refused has no line
 unfoldable pub pinsLine : ℕ → PinView → List ℕ
-pinsLine i (Picture p) = joined (pinsParts i p)
-pinsLine i (NoPicture why) = []
+pinsLine i view = cond (isAccepted (view .verdict)) (joined (pinsParts i (view .picture))) []
 
 unfoldable pub registersLine : ℕ → RegisterView → List ℕ
-registersLine i (Table r) = joined (registersParts i r)
-registersLine i (NoTable why) = []
+registersLine i view = cond (isAccepted (view .verdict)) (joined (registersParts i (view .table))) []
 
 abbrev pub chipLines : ℕ → Chain → List ℕ
 chipLines i s = pinsLine i (pinView i s) ++ registersLine i (registerView i s)
@@ -76,10 +64,10 @@ byteText Done = []
 byteText (Byte b) = byteField " byte " b
 byteText (Refused why) = []
 
-abbrev pub eventParts : Kind → Answer → ℕ → List (List ℕ)
+abbrev pub eventParts : ℕ → Answer → ℕ → List (List ℕ)
 eventParts kind answer event =
-    field "event " event ∷ text " " ∷ text (nameOf kind) ∷ text " accepted" ∷ byteText answer ∷ text "\n" ∷ []
+    field "event " event ∷ text " " ∷ nameOf kind ∷ text " accepted" ∷ byteText answer ∷ text "\n" ∷ []
 
 -- the page after an accepted step
-unfoldable pub pageOf : Kind → Answer → Chain → List ℕ
+unfoldable pub pageOf : ℕ → Answer → Chain → List ℕ
 pageOf kind answer s = joined (eventParts kind answer (s .event)) ++ chipsFrom (s .count) 0 s

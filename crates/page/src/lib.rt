@@ -1,23 +1,23 @@
 // What a page says of a state: the event, and for each chip in the count the line of its pins and the line of its registers, all with one event number.
-// A page is written into a lent buffer. The page stands here, its lines in lines.rt, and what lines are made of in fields.rt.
-pub mod fields;
+// A page is written into a lent buffer. The page stands here, its lines in lines.rt.
 pub mod lines;
 
 ghost use mathlib.Core.Path.{_≡_};
 ghost use Rattle.page.specs.Page.{chipsFrom, chipLines, byteText, eventParts, pageOf};
 ghost use Rattle.text.specs.Written.{joined, written};
-use crate::fields::put_byte_field;
-use crate::fields::put_field;
-use crate::fields::put_name;
 use crate::lines::put_pins_line;
 use crate::lines::put_registers_line;
 use chain::Chain;
 use refusal::Answer;
-use steps::Kind;
+use steps::kinds::put_name;
 use text::put::put;
+use text::put::put_byte_field;
+use text::put::put_field;
+use views::pin_view;
+use views::register_view;
 
 // The page after an accepted step.
-pub fn put_page(to: &mut [u8], at: usize, kind: Kind, answer: Answer, chain: Chain) -> usize
+pub fn put_page(to: &mut [u8], at: usize, kind: u8, answer: Answer, chain: Chain) -> usize
     ensures { λ r. ⌜ (now (to .exit), r) ≡ written (now (to .entry), at) (pageOf kind answer chain) ⌝ }
 {
     let next = put_event(to, at, kind, answer, chain.event);
@@ -25,7 +25,7 @@ pub fn put_page(to: &mut [u8], at: usize, kind: Kind, answer: Answer, chain: Cha
 }
 
 // event N KIND accepted, and the byte where one was driven or read.
-fn put_event(to: &mut [u8], at: usize, kind: Kind, answer: Answer, event: u16) -> usize
+fn put_event(to: &mut [u8], at: usize, kind: u8, answer: Answer, event: u16) -> usize
     ensures { λ r. ⌜ (now (to .exit), r) ≡ written (now (to .entry), at) (joined (eventParts kind answer event)) ⌝ }
 {
     let next = put_field(to, at, b"event ", event as u64);
@@ -62,8 +62,8 @@ fn put_chips(to: &mut [u8], at: usize, chain: Chain) -> usize
 fn put_chip(to: &mut [u8], at: usize, i: u8, chain: Chain) -> usize
     ensures { λ r. ⌜ (now (to .exit), r) ≡ written (now (to .entry), at) (chipLines i chain) ⌝ }
 {
-    let picture = chain.pin_view(i);
-    let table = chain.register_view(i);
+    let picture = pin_view(chain, i);
+    let table = register_view(chain, i);
     let next = put_pins_line(to, at, i, picture);
     put_registers_line(to, next, i, table)
 }

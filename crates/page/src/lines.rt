@@ -1,23 +1,25 @@
 // The two lines of a chip.
 ghost use mathlib.Core.Path.{_≡_};
-ghost use Rattle.page.specs.Page.{heading, chipPins, chainPins, pinsParts, requestBytes, stateFields, registersParts, pinsLine, registersLine};
+ghost use Rattle.page.specs.Page.{gintField, heading, chipPins, chainPins, pinsParts, requestBytes, stateFields, registersParts, pinsLine, registersLine};
 ghost use Rattle.text.specs.Written.{joined, written};
-use crate::fields::put_byte_field;
-use crate::fields::put_field;
-use crate::fields::put_gint;
-use chain::PinView;
-use chain::Pins;
-use chain::RegisterView;
-use chain::Registers;
 use text::put::put;
+use text::put::put_byte_field;
+use text::put::put_field;
+use views::PinView;
+use views::Pins;
+use views::RegisterView;
+use views::Registers;
 
 // The line of the pins, from the pin view.
 pub fn put_pins_line(to: &mut [u8], at: usize, i: u8, view: PinView) -> usize
     ensures { λ r. ⌜ (now (to .exit), r) ≡ written (now (to .entry), at) (pinsLine i view) ⌝ }
 {
-    match view {
-        PinView::Picture(pins) => put_pins(to, at, i, pins),
-        PinView::NoPicture(_) => at,
+    let verdict = view.verdict;
+    let pins = view.picture;
+    if verdict.is_accepted() {
+        put_pins(to, at, i, pins)
+    } else {
+        at
     }
 }
 
@@ -25,9 +27,12 @@ pub fn put_pins_line(to: &mut [u8], at: usize, i: u8, view: PinView) -> usize
 pub fn put_registers_line(to: &mut [u8], at: usize, i: u8, view: RegisterView) -> usize
     ensures { λ r. ⌜ (now (to .exit), r) ≡ written (now (to .entry), at) (registersLine i view) ⌝ }
 {
-    match view {
-        RegisterView::Table(registers) => put_registers(to, at, i, registers),
-        RegisterView::NoTable(_) => at,
+    let verdict = view.verdict;
+    let registers = view.table;
+    if verdict.is_accepted() {
+        put_registers(to, at, i, registers)
+    } else {
+        at
     }
 }
 
@@ -63,6 +68,17 @@ fn put_chip_pins(to: &mut [u8], at: usize, pins: Pins) -> usize
     let next = put_field(to, at, b" EI ", pins.ei as u64);
     let next = put_field(to, next, b" EO ", pins.eo as u64);
     put_gint(to, next, pins.gint)
+}
+
+// GINT, `z` where it is released.
+fn put_gint(to: &mut [u8], at: usize, gint: u8) -> usize
+    ensures { λ r. ⌜ (now (to .exit), r) ≡ written (now (to .entry), at) (gintField gint) ⌝ }
+{
+    if gint == 2 {
+        put(to, at, b" GINT z")
+    } else {
+        put_field(to, at, b" GINT ", gint as u64)
+    }
 }
 
 fn put_chain_pins(to: &mut [u8], at: usize, pins: Pins) -> usize

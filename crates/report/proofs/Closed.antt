@@ -4,7 +4,7 @@ use mathlib.Core.Bool.{true, false, cond}
 use mathlib.Core.List.{append-nil, _++_}
 use mathlib.Core.Path.{_≡_, ap, _∙_}
 use Prim.Native.Nat.{ℕ}
-use Rattle.report.specs.Messages.{malformedLine}
+use Rattle.messages.specs.Messages.{malformedLine}
 use Rattle.report.specs.Report.{Reply, ends, lacking, closed}
 use Rattle.steps.specs.declared.Expected.the-variants.{TheStart}
 

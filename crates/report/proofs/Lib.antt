@@ -1,4 +1,5 @@
 pub mod Bounds
 pub mod Closed
+pub mod EveryList
+pub mod Told
 pub mod Tried
-pub mod Whole

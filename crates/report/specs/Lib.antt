@@ -1,3 +1,2 @@
-pub mod Messages
+pub mod EveryList
 pub mod Report
-pub mod Whole

@@ -1,32 +1,34 @@
 -- A report of an event list: what each line prints, and what the whole list does.
 use mathlib.Core.Bool.{Bool, true, false, cond}
 use mathlib.Core.List.{List, [], _∷_, _++_}
+use mathlib.Core.Path.{_≡_}
 use Prim.Native.Nat.{ℕ, _+_, _%_, _^_}
 use lib.Dec.{eqb}
 use Rattle.chain.specs.Events.{eventOf}
 use Rattle.chain.specs.Fields.{zeroChain}
 use Rattle.chain.specs.Start.{startOf}
+use Rattle.refusal.specs.Answers.{verdictIn}
 use Rattle.refusal.specs.declared.Answer.{Answer}
-use Rattle.refusal.specs.declared.Answer.the-variants.{Done, Byte, Refused}
+use Rattle.refusal.specs.declared.Verdict.{Verdict}
+use Rattle.refusal.specs.declared.Verdict.the-variants.{Accepted, Refused}
 use Rattle.chain.specs.declared.Chain.{Chain}
-use Rattle.event.specs.declared.Event.{Event}
-use Rattle.event.specs.declared.Event.the-variants.{Command, Data, Status, Read, Line, Enable, Fall, Rise}
-use Rattle.report.specs.Messages.{malformedLine, refusedLine}
+use Rattle.messages.specs.Messages.{malformedLine, refusedLine}
 use Rattle.page.specs.Page.{pageOf}
 use Rattle.report.specs.declared.Report.{Report}
+use Rattle.report.specs.declared.Taken.{Taken}
 use Rattle.steps.specs.Lines.{stepOf}
 use Rattle.steps.specs.declared.Expected.the-variants.{TheStart}
-use Rattle.steps.specs.declared.Kind.{Kind}
 use Rattle.steps.specs.declared.Step.{Step}
-use Rattle.steps.specs.declared.Step.the-variants.{Nothing, Happens, Malformed}
+use Rattle.steps.specs.declared.Step.the-variants.{Nothing, Start, Happens, Malformed}
+use Rattle.text.specs.Written.{written}
 
 -- before the first line, nothing has started
 unfoldable pub atFirst : Report
 atFirst = record { line = 1; started = false; chain = zeroChain }
 
--- the next line; its number is counted in sixty-four bits
-abbrev pub nextLine : ℕ → ℕ
-nextLine line = (line + 1) % 2 ^ 64
+-- after a line; its number is counted in sixty-four bits
+abbrev pub after : Bool → Chain → Report → Report
+after started chain r = record { line = (r .line + 1) % 2 ^ 64; started = started; chain = chain }
 
 -- What a line does: what it prints, the report after it, and whether the report ends there.
 pub record Reply : Type 0 where
@@ -34,35 +36,32 @@ pub record Reply : Type 0 where
   pub report : Report
   pub ended : Bool
 
+-- what a line hands back, and the page after it, tell a reply
+abbrev pub Tells : Reply → List ℕ → Taken → List ℕ → Type 0
+Tells said page taken after =
+    (taken .report ≡ said .report)
+    × ((taken .ended ≡ said .ended) × (_≡_ {A = List ℕ × ℕ} (after, taken .length) (written (page, 0) (said .print))))
+
 -- it goes on with a chain
 abbrev pub goesOn : List ℕ → Bool → Chain → Report → Reply
-goesOn print started chain r =
-    record { print = print; report = record { line = nextLine (r .line); started = started; chain = chain }; ended = false }
+goesOn print started chain r = record { print = print; report = after started chain r; ended = false }
 
 -- or ends there
 abbrev pub ends : List ℕ → Report → Reply
 ends print r = record { print = print; report = r; ended = true }
 
 -- an accepted step prints its page, a refused one its refusal
-unfoldable pub answered : Kind → Answer → Chain → Report → Reply
-answered kind Done s r = goesOn (pageOf kind Done s) true s r
-answered kind (Byte b) s r = goesOn (pageOf kind (Byte b) s) true s r
-answered kind (Refused why) s r = ends (refusedLine (r .line) kind why) r
+abbrev pub byVerdict : Verdict → ℕ → Answer → Chain → Report → Reply
+byVerdict Accepted kind answer s r = goesOn (pageOf kind answer s) true s r
+byVerdict (Refused why) kind answer s r = ends (refusedLine (r .line) kind why) r
 
-abbrev pub kindIn : Event → Kind
-kindIn (Command i code) = Kind.Command
-kindIn (Data i byte) = Kind.Data
-kindIn (Status i) = Kind.Status
-kindIn (Read i) = Kind.Read
-kindIn (Line i channel level) = Kind.Line
-kindIn (Enable level) = Kind.Enable
-kindIn Fall = Kind.Fall
-kindIn Rise = Kind.Rise
+unfoldable pub stepReply : ℕ → Answer → Chain → Report → Reply
+stepReply kind answer s r = byVerdict (verdictIn answer) kind answer s r
 
 unfoldable pub replyTo : Step → Report → Reply
 replyTo Nothing r = goesOn [] (r .started) (r .chain) r
-replyTo (Step.Start count fill) r = answered Kind.Start (startOf count fill .answer) (startOf count fill .chain) r
-replyTo (Happens e) r = answered (kindIn e) (eventOf e (r .chain) .answer) (eventOf e (r .chain) .chain) r
+replyTo (Start count fill) r = stepReply 0 (startOf count fill .answer) (startOf count fill .chain) r
+replyTo (Happens kind e) r = stepReply kind (eventOf e (r .chain) .answer) (eventOf e (r .chain) .chain) r
 replyTo (Malformed expected) r = ends (malformedLine (r .line) expected) r
 
 -- what a line does, without its line feed

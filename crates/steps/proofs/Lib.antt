@@ -1,2 +1,2 @@
-pub mod Called
+pub mod Bounds
 pub mod Cuts

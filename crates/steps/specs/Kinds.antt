@@ -1,44 +1,47 @@
--- The steps of an event list: their names, and the arguments that each takes.
+-- The steps of an event list: their names, and the arguments that each takes. Kind 0 is the start; 1 to 8 are the events.
 use mathlib.Core.Bool.{cond}
-use mathlib.Core.List.{List, [], _∷_}
+use mathlib.Core.List.{List}
 use Prim.Native.Nat.{ℕ}
-use Prim.Native.String.{String}
-use Rattle.text.specs.Words.{same}
+use lib.Dec.{eqb}
+use Rattle.text.specs.Tables.{lineIn, placeIn}
 use Rattle.text.specs.Written.{text}
+use Rattle.steps.specs.declared.Argument.{Argument}
 use Rattle.steps.specs.declared.Argument.the-variants.{Count, Fill, Chip, Code, Byte, Channel, Level, End}
 use Rattle.steps.specs.declared.Form.{Form}
-use Rattle.steps.specs.declared.Kind.{Kind}
-use Rattle.steps.specs.declared.Kind.the-variants.{Start, Command, Data, Status, Read, Line, Enable, Fall, Rise}
-use Rattle.steps.specs.declared.Named.{Named}
-use Rattle.steps.specs.declared.Named.the-variants.{Known, Unknown}
 
-abbrev pub nameOf : Kind → String
-nameOf Start = "start"
-nameOf Command = "command"
-nameOf Data = "data"
-nameOf Status = "status"
-nameOf Read = "read"
-nameOf Line = "line"
-nameOf Enable = "enable"
-nameOf Fall = "fall"
-nameOf Rise = "rise"
+-- the names, each in the line of its kind
+abbrev pub names : List ℕ
+names = text "start\ncommand\ndata\nstatus\nread\nline\nenable\nfall\nrise"
 
--- of some kinds, the first whose name a word is
-abbrev pub namedIn : List ℕ → List Kind → Named
-namedIn word [] = Unknown
-namedIn word (kind ∷ kinds) = cond (same word (text (nameOf kind))) (Known kind) (namedIn word kinds)
+unfoldable pub nameOf : ℕ → List ℕ
+nameOf kind = lineIn kind names
 
-unfoldable pub kindOf : List ℕ → Named
-kindOf word = namedIn word (Start ∷ Command ∷ Data ∷ Status ∷ Read ∷ Line ∷ Enable ∷ Fall ∷ Rise ∷ [])
+-- the kind that a word names; 9 if none
+unfoldable pub kindOf : List ℕ → ℕ
+kindOf word = placeIn names 9 word
+
+abbrev pub taking : Argument → Argument → Argument → Form
+taking chip channel value = record { chip = chip; channel = channel; value = value }
 
 -- start COUNT FILL, command CHIP CODE, data CHIP BYTE, status CHIP, read CHIP, line CHIP CHANNEL LEVEL, enable LEVEL, fall, rise
-abbrev pub formOf : Kind → Form
-formOf Start = record { first = Count; second = Fill; third = End }
-formOf Command = record { first = Chip; second = Code; third = End }
-formOf Data = record { first = Chip; second = Byte; third = End }
-formOf Status = record { first = Chip; second = End; third = End }
-formOf Read = record { first = Chip; second = End; third = End }
-formOf Line = record { first = Chip; second = Channel; third = Level }
-formOf Enable = record { first = Level; second = End; third = End }
-formOf Fall = record { first = End; second = End; third = End }
-formOf Rise = record { first = End; second = End; third = End }
+abbrev pub formOf : ℕ → Form
+formOf kind =
+    cond (eqb kind 0) (taking Count End Fill)
+    (cond (eqb kind 1) (taking Chip End Code)
+    (cond (eqb kind 2) (taking Chip End Byte)
+    (cond (eqb kind 3) (taking Chip End End)
+    (cond (eqb kind 4) (taking Chip End End)
+    (cond (eqb kind 5) (taking Chip Channel Level)
+    (cond (eqb kind 6) (taking End End Level)
+    (taking End End End)))))))
+
+-- an argument's line in a table
+abbrev pub argumentNumber : Argument → ℕ
+argumentNumber Count = 0
+argumentNumber Fill = 1
+argumentNumber Chip = 2
+argumentNumber Code = 3
+argumentNumber Byte = 4
+argumentNumber Channel = 5
+argumentNumber Level = 6
+argumentNumber End = 7

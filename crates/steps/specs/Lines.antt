@@ -1,26 +1,25 @@
 -- What a line of an event list says.
-use mathlib.Core.Bool.{Bool, true, false, cond, not}
+use mathlib.Core.Bool.{Bool, true, false, cond, not, _&&_, _||_}
 use mathlib.Core.List.{List}
 use Prim.Native.Nat.{ℕ, _-_}
 use lib.Dec.{eqb, ltb}
-use lib.ListN.{length, getD, take}
-use Rattle.event.specs.declared.Event.the-variants.{Command as CommandOf, Data as DataOf, Status as StatusOf, Read as ReadOf, Line as LineOf, Enable as EnableOf, Fall as FallOf, Rise as RiseOf}
+use lib.ListN.{length, getD, take, drop}
+use Rattle.event.specs.Numbers.{listed}
+use Rattle.event.specs.declared.Listed.{Listed}
+use Rattle.event.specs.declared.Listed.the-variants.{Known, Unknown}
 use Rattle.text.specs.Words.{word, behind, decimalIn, hexIn, wordStart, wordEnd}
 use Rattle.text.specs.declared.Number.{Number}
 use Rattle.text.specs.declared.Number.the-variants.{Value, Wrong}
-use Rattle.steps.specs.Kinds.{kindOf, formOf}
+use Rattle.steps.specs.Kinds.{kindOf, formOf, argumentNumber}
 use Rattle.steps.specs.declared.Argument.{Argument}
 use Rattle.steps.specs.declared.Argument.the-variants.{Count, Fill, Chip, Code, Byte, Channel, Level, End}
 use Rattle.steps.specs.declared.Expected.{Expected}
 use Rattle.steps.specs.declared.Expected.the-variants.{Shorter, TheStart, AnEvent, Wanted}
-use Rattle.steps.specs.declared.Kind.{Kind}
-use Rattle.steps.specs.declared.Kind.the-variants.{Command, Data, Status, Read, Line, Enable, Fall, Rise}
-use Rattle.steps.specs.declared.Named.{Named}
-use Rattle.steps.specs.declared.Named.the-variants.{Known, Unknown}
+use Rattle.steps.specs.declared.Form.{Form}
 use Rattle.steps.specs.declared.Step.{Step}
-use Rattle.steps.specs.declared.Step.the-variants.{Nothing, Happens, Malformed}
+use Rattle.steps.specs.declared.Step.the-variants.{Nothing, Start, Happens, Malformed}
 
--- bytes are hex; other numbers decimal; the end is no word at all
+-- bytes are hex; other numbers decimal; what a step does not take is 0
 abbrev pub valueOf : Argument → List ℕ → Number
 valueOf Count found = decimalIn found
 valueOf Fill found = hexIn found
@@ -29,61 +28,63 @@ valueOf Code found = hexIn found
 valueOf Byte found = hexIn found
 valueOf Channel found = decimalIn found
 valueOf Level found = decimalIn found
-valueOf End found = cond (eqb (length found) 0) (Value 0) Wrong
+valueOf End found = Value 0
 
--- the step of a kind, with its arguments
-abbrev pub made : Kind → ℕ → ℕ → ℕ → Step
-made Kind.Start a b c = Step.Start a b
-made Command a b c = Happens (CommandOf a b)
-made Data a b c = Happens (DataOf a b)
-made Status a b c = Happens (StatusOf a)
-made Read a b c = Happens (ReadOf a)
-made Line a b c = Happens (LineOf a b c)
-made Enable a b c = Happens (EnableOf a)
-made Fall a b c = Happens FallOf
-made Rise a b c = Happens RiseOf
+-- an argument is a word, and what a step does not take is none
+abbrev pub argumentEnd : Argument → List ℕ → ℕ
+argumentEnd argument line = cond (eqb (argumentNumber argument) 7) 0 (wordEnd line)
+
+unfoldable pub behindArgument : Argument → List ℕ → List ℕ
+behindArgument argument line = drop (argumentEnd argument line) line
+
+-- there is no word in it
+abbrev pub isOver : List ℕ → Bool
+isOver line = eqb (wordStart line) (wordEnd line)
+
+-- the step of a kind with its numbers: the count and the fill of a start, or the event that they are in a list of numbers
+abbrev pub happening : ℕ → Listed → Step
+happening kind (Known e) = Happens kind e
+happening kind Unknown = Malformed AnEvent
+
+abbrev pub made : ℕ → ℕ → ℕ → ℕ → Step
+made kind chip channel value = cond (eqb kind 0) (Start chip value) (happening kind (listed kind chip channel value))
 
 -- of the three arguments and the end behind them, the first that is wrong is what was expected
-unfoldable pub judged : Kind → Number → Number → Number → Number → Step
-judged kind Wrong second third last = Malformed (Wanted kind (formOf kind .first))
-judged kind (Value a) Wrong third last = Malformed (Wanted kind (formOf kind .second))
-judged kind (Value a) (Value b) Wrong last = Malformed (Wanted kind (formOf kind .third))
-judged kind (Value a) (Value b) (Value c) Wrong = Malformed (Wanted kind End)
-judged kind (Value a) (Value b) (Value c) (Value none) = made kind a b c
+unfoldable pub stepFrom : ℕ → Number → Number → Number → Bool → Step
+stepFrom kind Wrong channel value over = Malformed (Wanted kind (formOf kind .chip))
+stepFrom kind (Value a) Wrong value over = Malformed (Wanted kind (formOf kind .channel))
+stepFrom kind (Value a) (Value b) Wrong over = Malformed (Wanted kind (formOf kind .value))
+stepFrom kind (Value a) (Value b) (Value c) over = cond over (made kind a b c) (Malformed (Wanted kind End))
 
--- each word behind the name, by what it should be
-unfoldable pub readAs : Kind → List ℕ → Step
-readAs kind rest =
-    judged
+-- each argument behind the name, by what it should be
+unfoldable pub readBy : ℕ → Form → List ℕ → Step
+readBy kind form rest =
+    let second : List ℕ = behindArgument (form .chip) rest in
+    let third : List ℕ = behindArgument (form .channel) second in
+    stepFrom
     kind
-    (valueOf (formOf kind .first) (word rest))
-    (valueOf (formOf kind .second) (word (behind rest)))
-    (valueOf (formOf kind .third) (word (behind (behind rest))))
-    (valueOf End (word (behind (behind (behind rest)))))
+    (valueOf (form .chip) (word rest))
+    (valueOf (form .channel) (word second))
+    (valueOf (form .value) (word third))
+    (isOver (behindArgument (form .value) third))
+
+unfoldable pub readAs : ℕ → List ℕ → Step
+readAs kind rest = readBy kind (formOf kind) rest
 
 -- the start stands first, and nowhere else
-abbrev pub fits : Bool → Kind → Bool
-fits started Kind.Start = not started
-fits started Command = started
-fits started Data = started
-fits started Status = started
-fits started Read = started
-fits started Line = started
-fits started Enable = started
-fits started Fall = started
-fits started Rise = started
+abbrev pub mayStand : Bool → ℕ → Bool
+mayStand started kind = ltb kind 9 && (started && not (eqb kind 0) || not started && eqb kind 0)
 
 abbrev pub awaited : Bool → Expected
 awaited false = TheStart
 awaited true = AnEvent
 
-abbrev pub called : Bool → Named → List ℕ → Step
-called started Unknown rest = Malformed (awaited started)
-called started (Known kind) rest = cond (fits started kind) (readAs kind rest) (Malformed (awaited started))
+abbrev pub stepNamed : Bool → ℕ → List ℕ → Step
+stepNamed started kind rest = cond (mayStand started kind) (readAs kind rest) (Malformed (awaited started))
 
 -- the first word names the step; a line without one says nothing
 unfoldable pub stepIn : Bool → List ℕ → Step
-stepIn started line = cond (eqb (wordStart line) (wordEnd line)) Nothing (called started (kindOf (word line)) (behind line))
+stepIn started line = cond (isOver line) Nothing (stepNamed started (kindOf (word line)) (behind line))
 
 -- a carriage return (13) at the end of a line is not part of its text
 abbrev pub textEnd : List ℕ → ℕ

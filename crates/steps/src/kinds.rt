@@ -1,81 +1,75 @@
 // The steps' names, and the arguments that each step takes.
 ghost use mathlib.Core.Path.{_≡_};
-ghost use Rattle.steps.specs.Kinds.{nameOf, kindOf, formOf};
-ghost use Rattle.text.specs.Written.{text};
-ghost use Rattle.text.specs.Words.{same as Words·same};
+ghost use Rattle.steps.specs.Kinds.{nameOf, kindOf, formOf, argumentNumber};
+ghost use Rattle.text.specs.Written.{written};
 use crate::Argument;
 use crate::Form;
-use crate::Kind;
-use crate::Named;
-use text::words::same;
+use text::tables::place_in;
+use text::tables::put_line;
 
-// The step that a word names.
-pub fn kind_of(word: &[u8]) -> Named
+// The kind of the start.
+pub const START: u8 = 0;
+
+// How many kinds there are.
+pub const KINDS: u8 = 9;
+
+// The names, each in the line of its kind.
+const NAMES: [u8; 52] = *b"start\ncommand\ndata\nstatus\nread\nline\nenable\nfall\nrise";
+
+// The kind of the step that a word names; the number of kinds where it names none.
+pub fn kind_of(word: &[u8]) -> u8
     ensures { λ r. ⌜ r ≡ kindOf (now (word .entry)) ⌝ }
 {
-    if names(word, Kind::Start) {
-        Named::Known(Kind::Start)
-    } else if names(word, Kind::Command) {
-        Named::Known(Kind::Command)
-    } else if names(word, Kind::Data) {
-        Named::Known(Kind::Data)
-    } else if names(word, Kind::Status) {
-        Named::Known(Kind::Status)
-    } else if names(word, Kind::Read) {
-        Named::Known(Kind::Read)
-    } else if names(word, Kind::Line) {
-        Named::Known(Kind::Line)
-    } else if names(word, Kind::Enable) {
-        Named::Known(Kind::Enable)
-    } else if names(word, Kind::Fall) {
-        Named::Known(Kind::Fall)
-    } else if names(word, Kind::Rise) {
-        Named::Known(Kind::Rise)
-    } else {
-        Named::Unknown
-    }
+    place_in(&NAMES, KINDS, word)
 }
 
-// Whether a word is a step's name.
-fn names(word: &[u8], kind: Kind) -> bool
-    ensures { λ r. ⌜ r ≡ Words·same (now (word .entry)) (text (nameOf kind)) ⌝ }
+// A step's name.
+pub fn put_name(to: &mut [u8], at: usize, kind: u8) -> usize
+    ensures { λ r. ⌜ (now (to .exit), r) ≡ written (now (to .entry), at) (nameOf kind) ⌝ }
 {
-    match kind {
-        Kind::Start => same(word, b"start"),
-        Kind::Command => same(word, b"command"),
-        Kind::Data => same(word, b"data"),
-        Kind::Status => same(word, b"status"),
-        Kind::Read => same(word, b"read"),
-        Kind::Line => same(word, b"line"),
-        Kind::Enable => same(word, b"enable"),
-        Kind::Fall => same(word, b"fall"),
-        Kind::Rise => same(word, b"rise"),
-    }
+    put_line(to, at, &NAMES, kind)
 }
 
 // The arguments of a step.
-pub fn form_of(kind: Kind) -> Form
+pub fn form_of(kind: u8) -> Form
     ensures { λ r. ⌜ r ≡ formOf kind ⌝ }
 {
     match kind {
-        Kind::Start => taking(Argument::Count, Argument::Fill, Argument::End),
-        Kind::Command => taking(Argument::Chip, Argument::Code, Argument::End),
-        Kind::Data => taking(Argument::Chip, Argument::Byte, Argument::End),
-        Kind::Status => taking(Argument::Chip, Argument::End, Argument::End),
-        Kind::Read => taking(Argument::Chip, Argument::End, Argument::End),
-        Kind::Line => taking(Argument::Chip, Argument::Channel, Argument::Level),
-        Kind::Enable => taking(Argument::Level, Argument::End, Argument::End),
-        Kind::Fall => taking(Argument::End, Argument::End, Argument::End),
-        Kind::Rise => taking(Argument::End, Argument::End, Argument::End),
+        0 => taking(Argument::Count, Argument::End, Argument::Fill),
+        1 => taking(Argument::Chip, Argument::End, Argument::Code),
+        2 => taking(Argument::Chip, Argument::End, Argument::Byte),
+        3 => taking(Argument::Chip, Argument::End, Argument::End),
+        4 => taking(Argument::Chip, Argument::End, Argument::End),
+        5 => taking(Argument::Chip, Argument::Channel, Argument::Level),
+        6 => taking(Argument::End, Argument::End, Argument::Level),
+        _ => taking(Argument::End, Argument::End, Argument::End),
     }
 }
 
-fn taking(first: Argument, second: Argument, third: Argument) -> Form
-    ensures { λ r. ⌜ r ≡ record { first = first; second = second; third = third } ⌝ }
+fn taking(chip: Argument, channel: Argument, value: Argument) -> Form
+    ensures { λ r. ⌜ r ≡ record { chip = chip; channel = channel; value = value } ⌝ }
 {
     Form {
-        first: first,
-        second: second,
-        third: third,
+        chip: chip,
+        channel: channel,
+        value: value,
+    }
+}
+
+impl Argument {
+    // Its line in a table.
+    pub fn number(self) -> u8
+        ensures { λ r. ⌜ r ≡ argumentNumber self ⌝ }
+    {
+        match self {
+            Argument::Count => 0,
+            Argument::Fill => 1,
+            Argument::Chip => 2,
+            Argument::Code => 3,
+            Argument::Byte => 4,
+            Argument::Channel => 5,
+            Argument::Level => 6,
+            Argument::End => 7,
+        }
     }
 }

@@ -1,28 +1,10 @@
 // What a line of an event list says: the start, one of the eight events, nothing, or what it should have said.
+// A step is named by its kind, a number: 0 is the start, 1 to 8 are the events, by the kinds that they have in a list of numbers.
 // The records stand here; line.rt reads a line, kinds.rt has the steps' names and the arguments that each takes.
 pub mod kinds;
 pub mod line;
 
 use event::Event;
-
-// The steps of a list: the start, and the eight events.
-pub enum Kind {
-    Start,
-    Command,
-    Data,
-    Status,
-    Read,
-    Line,
-    Enable,
-    Fall,
-    Rise,
-}
-
-// What a word names.
-pub enum Named {
-    Known(Kind),
-    Unknown,
-}
 
 // What stands behind a step's name.
 pub enum Argument {
@@ -37,11 +19,11 @@ pub enum Argument {
     End,
 }
 
-// The arguments that a step takes, in their order.
+// The arguments that a step takes, in their order: for its chip, its channel and its value. `End` stands for what it does not take.
 pub struct Form {
-    pub first: Argument,
-    pub second: Argument,
-    pub third: Argument,
+    pub chip: Argument,
+    pub channel: Argument,
+    pub value: Argument,
 }
 
 // What should have stood where a line is malformed.
@@ -52,8 +34,8 @@ pub enum Expected {
     TheStart,
     // One of the eight events, since the list has begun.
     AnEvent,
-    // An argument of a step.
-    Wanted(Kind, Argument),
+    // An argument of a step of a kind.
+    Wanted(u8, Argument),
 }
 
 // What a line says.
@@ -61,6 +43,7 @@ pub enum Step {
     Nothing,
     // Count and fill.
     Start(u8, u8),
-    Happens(Event),
+    // An event, and its kind.
+    Happens(u8, Event),
     Malformed(Expected),
 }

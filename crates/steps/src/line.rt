@@ -3,15 +3,15 @@ ghost use mathlib.Core.Path.{_≡_};
 ghost use Prim.Native.Nat.{_≤_};
 ghost use lib.ListN.{length};
 ghost use Rattle.text.specs.Words.{word};
-ghost use Rattle.steps.specs.Lines.{textEnd, valueOf, made, judged, readAs, fits, awaited, called, stepIn, stepOf};
+ghost use Rattle.steps.specs.Lines.{textEnd, isOver, valueOf, argumentEnd, made, stepFrom, readAs, mayStand, awaited, stepNamed, stepIn, stepOf};
 use crate::Argument;
 use crate::Expected;
-use crate::Kind;
-use crate::Named;
 use crate::Step;
+use crate::kinds::KINDS;
+use crate::kinds::START;
 use crate::kinds::form_of;
 use crate::kinds::kind_of;
-use event::Event;
+use event::Listed;
 use text::Number;
 use text::numbers::decimal_in;
 use text::numbers::hex_in;
@@ -47,45 +47,37 @@ fn text_end(line: &[u8]) -> usize
 fn step_in(started: bool, line: &[u8]) -> Step
     ensures { λ r. ⌜ r ≡ stepIn started (now (line .entry)) ⌝ }
 {
-    let start = word_start(line);
-    let end = word_end(line);
-    if start == end {
+    if is_over(line) {
         return Step::Nothing;
     }
-    call(started, kind_of(&line[start..end]), &line[end..])
+    let start = word_start(line);
+    let end = word_end(line);
+    step_named(started, kind_of(&line[start..end]), &line[end..])
 }
 
-// What a named step says, from what stands behind its name.
-fn call(started: bool, named: Named, rest: &[u8]) -> Step
-    ensures { λ r. ⌜ r ≡ called started named (now (rest .entry)) ⌝ }
+// Whether there is no word in it.
+fn is_over(line: &[u8]) -> bool
+    ensures { λ r. ⌜ r ≡ isOver (now (line .entry)) ⌝ }
 {
-    match named {
-        Named::Known(kind) => {
-            if fit(started, kind) {
-                read_as(kind, rest)
-            } else {
-                Step::Malformed(await_for(started))
-            }
-        }
-        Named::Unknown => Step::Malformed(await_for(started)),
+    word_start(line) == word_end(line)
+}
+
+// What a step of a kind says, from what stands behind its name.
+fn step_named(started: bool, kind: u8, rest: &[u8]) -> Step
+    ensures { λ r. ⌜ r ≡ stepNamed started kind (now (rest .entry)) ⌝ }
+{
+    if may_stand(started, kind) {
+        read_as(kind, rest)
+    } else {
+        Step::Malformed(await_for(started))
     }
 }
 
 // Whether a step may stand there: the start first, and nowhere else.
-fn fit(started: bool, kind: Kind) -> bool
-    ensures { λ r. ⌜ r ≡ fits started kind ⌝ }
+fn may_stand(started: bool, kind: u8) -> bool
+    ensures { λ r. ⌜ r ≡ mayStand started kind ⌝ }
 {
-    match kind {
-        Kind::Start => !started,
-        Kind::Command => started,
-        Kind::Data => started,
-        Kind::Status => started,
-        Kind::Read => started,
-        Kind::Line => started,
-        Kind::Enable => started,
-        Kind::Fall => started,
-        Kind::Rise => started,
-    }
+    (kind < KINDS) & (started & (kind != START) | !started & (kind == START))
 }
 
 fn await_for(started: bool) -> Expected
@@ -99,21 +91,32 @@ fn await_for(started: bool) -> Expected
 }
 
 // A step of a kind, from what stands behind its name.
-fn read_as(kind: Kind, rest: &[u8]) -> Step
+fn read_as(kind: u8, rest: &[u8]) -> Step
     ensures { λ r. ⌜ r ≡ readAs kind (now (rest .entry)) ⌝ }
 {
     let form = form_of(kind);
-    let one = form.first;
-    let two = form.second;
-    let three = form.third;
-    let behind_one = &rest[word_end(rest)..];
-    let behind_two = &behind_one[word_end(behind_one)..];
-    let behind_three = &behind_two[word_end(behind_two)..];
-    let first = value_of(one, rest);
-    let second = value_of(two, behind_one);
-    let third = value_of(three, behind_two);
-    let last = value_of(Argument::End, behind_three);
-    judge(kind, first, second, third, last)
+    let one = form.chip;
+    let two = form.channel;
+    let three = form.value;
+    let behind_one = &rest[argument_end(one, rest)..];
+    let behind_two = &behind_one[argument_end(two, behind_one)..];
+    let behind_three = &behind_two[argument_end(three, behind_two)..];
+    let chip = value_of(one, rest);
+    let channel = value_of(two, behind_one);
+    let value = value_of(three, behind_two);
+    step_from(kind, chip, channel, value, is_over(behind_three))
+}
+
+// Where the first argument of a line ends: its first word, or no word at all.
+fn argument_end(argument: Argument, line: &[u8]) -> usize
+    ensures { λ r. ⌜ r ≤ length (now (line .entry)) ⌝ }
+    ensures { λ r. ⌜ r ≡ argumentEnd argument (now (line .entry)) ⌝ }
+{
+    if argument.number() == 7 {
+        0
+    } else {
+        word_end(line)
+    }
 }
 
 // What the first word of a line says as an argument.
@@ -136,52 +139,46 @@ fn said(argument: Argument, found: &[u8]) -> Number
         Argument::Byte => hex_in(found),
         Argument::Channel => decimal_in(found),
         Argument::Level => decimal_in(found),
-        Argument::End => {
-            if found.len() == 0 {
-                Number::Value(0)
-            } else {
-                Number::Wrong
-            }
-        }
+        Argument::End => Number::Value(0),
     }
 }
 
-// The step that four words say, or the first of them that is wrong.
-fn judge(kind: Kind, first: Number, second: Number, third: Number, last: Number) -> Step
-    ensures { λ r. ⌜ r ≡ judged kind first second third last ⌝ }
+// The step that some arguments say, or the first of them that is wrong.
+fn step_from(kind: u8, chip: Number, channel: Number, value: Number, over: bool) -> Step
+    ensures { λ r. ⌜ r ≡ stepFrom kind chip channel value over ⌝ }
 {
     let form = form_of(kind);
-    let one = form.first;
-    let two = form.second;
-    let three = form.third;
-    match first {
+    let one = form.chip;
+    let two = form.channel;
+    let three = form.value;
+    match chip {
         Number::Wrong => Step::Malformed(Expected::Wanted(kind, one)),
-        Number::Value(a) => match second {
+        Number::Value(a) => match channel {
             Number::Wrong => Step::Malformed(Expected::Wanted(kind, two)),
-            Number::Value(b) => match third {
+            Number::Value(b) => match value {
                 Number::Wrong => Step::Malformed(Expected::Wanted(kind, three)),
-                Number::Value(c) => match last {
-                    Number::Wrong => Step::Malformed(Expected::Wanted(kind, Argument::End)),
-                    Number::Value(_) => make(kind, a, b, c),
-                },
+                Number::Value(c) => {
+                    if over {
+                        make(kind, a, b, c)
+                    } else {
+                        Step::Malformed(Expected::Wanted(kind, Argument::End))
+                    }
+                }
             },
         },
     }
 }
 
-// The step of a kind with its arguments.
-fn make(kind: Kind, a: u8, b: u8, c: u8) -> Step
-    ensures { λ r. ⌜ r ≡ made kind a b c ⌝ }
+// The step of a kind with its numbers: the count and the fill of a start, or the event that they are in a list of numbers.
+fn make(kind: u8, chip: u8, channel: u8, value: u8) -> Step
+    ensures { λ r. ⌜ r ≡ made kind chip channel value ⌝ }
 {
-    match kind {
-        Kind::Start => Step::Start(a, b),
-        Kind::Command => Step::Happens(Event::Command(a, b)),
-        Kind::Data => Step::Happens(Event::Data(a, b)),
-        Kind::Status => Step::Happens(Event::Status(a)),
-        Kind::Read => Step::Happens(Event::Read(a)),
-        Kind::Line => Step::Happens(Event::Line(a, b, c)),
-        Kind::Enable => Step::Happens(Event::Enable(a)),
-        Kind::Fall => Step::Happens(Event::Fall),
-        Kind::Rise => Step::Happens(Event::Rise),
+    if kind == START {
+        return Step::Start(chip, value);
+    }
+    let listed = Listed::of(kind, chip, channel, value);
+    match listed {
+        Listed::Known(event) => Step::Happens(kind, event),
+        Listed::Unknown => Step::Malformed(Expected::AnEvent),
     }
 }

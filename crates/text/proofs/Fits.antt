@@ -4,6 +4,7 @@ use mathlib.Core.Bool.{Bool, true, false, cond}
 use mathlib.Core.List.{List, [], _∷_, _++_, append-assoc}
 use mathlib.Core.Path.{_≡_, sym, ap, ap₂, _∙_}
 use Prim.Native.Nat.{ℕ, zero, suc, _+_, _*_, _/_, _%_, _≤_}
+use Prim.Native.String.{String}
 use native.Mathlib.Nat.{zero-add, le-refl}
 use native.Mathlib.Omega.{arith}
 use borrow.Author.Tests.{lt-ltb}
@@ -11,7 +12,7 @@ use lib.Dec.{eqb}
 use lib.ListN.{length, set, drop, length-append}
 use lib.Seq.{set-append-seam, append-snoc}
 use Rattle.text.specs.Fits.{Fits}
-use Rattle.text.specs.Written.{written, digit, digits, decimal, joined}
+use Rattle.text.specs.Written.{text, written, decimalDigit, digits, decimal, hexByte, joined, field, byteField}
 
 -- behind what stands there already
 behind : (p rest new : List ℕ) → length new ≤ length rest → written (p ++ rest, length p) new ≡ (p ++ new ++ drop (length new) rest, length p + length new)
@@ -33,13 +34,13 @@ digits-le : (k n : ℕ) → length (digits k n) ≤ k
 digits-le zero n = le-refl 0
 digits-le (suc k) n = some (digits-le k (n / 10)) (eqb n 0)
   where
-    some : length (digits k (n / 10)) ≤ k → (t : Bool) → length (cond t [] (digits k (n / 10) ++ (digit (n % 10) ∷ []))) ≤ suc k
+    some : length (digits k (n / 10)) ≤ k → (t : Bool) → length (cond t [] (digits k (n / 10) ++ (decimalDigit (n % 10) ∷ []))) ≤ suc k
     some before true = omega arith
-    some before false = omega (arith, before, length-append (digits k (n / 10)) (digit (n % 10) ∷ []))
+    some before false = omega (arith, before, length-append (digits k (n / 10)) (decimalDigit (n % 10) ∷ []))
 
 pub decimal-le : (n : ℕ) → length (decimal n) ≤ 20
 unfolding decimal
-decimal-le n = omega (arith, digits-le 19 (n / 10), length-append (digits 19 (n / 10)) (digit (n % 10) ∷ []))
+decimal-le n = omega (arith, digits-le 19 (n / 10), length-append (digits 19 (n / 10)) (decimalDigit (n % 10) ∷ []))
 
 -- parts none of which is longer than some length
 abbrev pub Each : ℕ → List (List ℕ) → Type 0
@@ -50,3 +51,14 @@ pub joined-le : (most : ℕ) (parts : List (List ℕ)) → Each most parts → l
 joined-le most [] each = omega arith
 joined-le most (part ∷ parts) each =
     omega (arith, length-append part (joined parts), joined-le most parts (each .1), each .0)
+
+-- a name of at most twelve letters, and a number or a byte
+pub numbered-le : (name : List ℕ) (n : ℕ) → length name ≤ 12 → length (name ++ decimal n) ≤ 32
+numbered-le name n h = omega (arith, length-append name (decimal n), decimal-le n, h)
+
+pub field-le : (name : String) (n : ℕ) → length (text name) ≤ 12 → length (field name n) ≤ 32
+field-le name n h = numbered-le (text name) n h
+
+pub byte-le : (name : String) (byte : ℕ) → length (text name) ≤ 12 → length (byteField name byte) ≤ 32
+unfolding hexByte
+byte-le name byte h = omega (arith, length-append (text name) (hexByte byte), h)

@@ -23,17 +23,17 @@ written to none = to
 written to (b then bs) = written (stored to b) bs
 
 -- a decimal digit
-abbrev pub digit : ℕ → ℕ
-digit value = 48 + value
+abbrev pub decimalDigit : ℕ → ℕ
+decimalDigit value = 48 + value
 
 -- the digits of a number, none for zero, and at most k of them
 abbrev pub digits : ℕ → ℕ → List ℕ
 digits zero n = none
-digits (suc k) n = cond (eqb n 0) none (digits k (n / 10) ++ (digit (n % 10) then none))
+digits (suc k) n = cond (eqb n 0) none (digits k (n / 10) ++ (decimalDigit (n % 10) then none))
 
 -- a number in decimal, without zeros in front: its last digit, and before it those that it has; nineteen and one are enough for 64 bits
 unfoldable pub decimal : ℕ → List ℕ
-decimal n = digits 19 (n / 10) ++ (digit (n % 10) then none)
+decimal n = digits 19 (n / 10) ++ (decimalDigit (n % 10) then none)
 
 -- a hex digit, in upper case
 abbrev pub hexDigit : ℕ → ℕ
@@ -47,3 +47,10 @@ hexByte byte = hexDigit (byte / 16) then hexDigit (byte % 16) then none
 abbrev pub joined : List (List ℕ) → List ℕ
 joined none = none
 joined (part then parts) = part ++ joined parts
+
+-- a name, and a number in decimal or a byte in hex
+abbrev pub field : String → ℕ → List ℕ
+field name n = text name ++ decimal n
+
+abbrev pub byteField : String → ℕ → List ℕ
+byteField name byte = text name ++ hexByte byte

@@ -2,6 +2,7 @@
 // Every call is answered for every input: what there is no room for is not written, and what is no number is told to be none.
 pub mod numbers;
 pub mod put;
+pub mod tables;
 pub mod words;
 
 // What a word says that should be a number of eight bits.

@@ -1,4 +1,5 @@
 // Text written into a lent buffer from a place on. Each call hands back the place behind what it has written, for the next one.
+ghost use mathlib.Core.List.{_++_};
 ghost use mathlib.Core.Path.{_≡_};
 ghost use Prim.Native.Nat.{_≤_, _<_};
 ghost use lib.ListN.{length, drop};
@@ -57,4 +58,20 @@ fn hex_digit(value: u8) -> u8
     ensures { λ r. ⌜ r ≡ hexDigit value ⌝ }
 {
     if value < 10 { 48 + value } else { 55 + value }
+}
+
+// A name and a number.
+pub fn put_field(to: &mut [u8], at: usize, name: &[u8], n: u64) -> usize
+    ensures { λ r. ⌜ (now (to .exit), r) ≡ written (now (to .entry), at) (now (name .entry) ++ decimal n) ⌝ }
+{
+    let next = put(to, at, name);
+    put_decimal(to, next, n)
+}
+
+// A name and a byte in hex.
+pub fn put_byte_field(to: &mut [u8], at: usize, name: &[u8], byte: u8) -> usize
+    ensures { λ r. ⌜ (now (to .exit), r) ≡ written (now (to .entry), at) (now (name .entry) ++ hexByte byte) ⌝ }
+{
+    let next = put(to, at, name);
+    put_hex(to, next, byte)
 }

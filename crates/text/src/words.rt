@@ -32,7 +32,7 @@ pub fn word_end(line: &[u8]) -> usize
 }
 
 // The place behind the bytes of a sort that stand from a place on.
-fn past(line: &[u8], from: usize, sort: Sort) -> usize
+pub(crate) fn past(line: &[u8], from: usize, sort: Sort) -> usize
     requires { ⌜ from ≤ length (now line) ⌝ }
     ensures { λ r. ⌜ from ≤ r ⌝ }
     ensures { λ r. ⌜ r ≤ length (now (line .entry)) ⌝ }

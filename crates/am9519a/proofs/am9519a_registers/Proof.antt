@@ -1,38 +1,18 @@
 -- `am9519a::am9519a_registers` meets its contract.
 -- Assumes nothing.
-use mathlib.Core.Bool.{true}
-use mathlib.Core.Path.{_≡_, sym, ap, _∙_}
-use mathlib.Core.List.{[], _∷_}
-use lib.ListN.{length}
-use borrow.Author.Tests.{not-true, not-false}
+use mathlib.Core.Path.{refl, ap, _∙_}
+use Rattle.views.specs.Views.{tableOf, noTable, registerView}
+use Rattle.am9519a.specs.Calls.{tableBytes, viewed, registersCall}
+use Rattle.am9519a.proofs.Seen.{in-image}
 use borrow.Author.Needs.{needs}
-use Rattle.refusal.specs.Numbers.{firstOf}
-use Rattle.chain.specs.Views.{registerView, tableOf, viewVerdict}
-use Rattle.image.specs.Reading.{isImage, chainIn}
-use Rattle.image.proofs.OneToOne.{image-length}
-use Rattle.image.specs.Layout.{over}
-use Rattle.am9519a.specs.Calls.{called, shortBuffer, tableBytes, registersCall}
-use Rattle.am9519a.proofs.Seen.{no-image, view-stops, view-goes-on, table-told, no-table-told}
 use Rattle.am9519a.proofs.am9519a_registers.Statement.{statement}
 use Rattle.am9519a.proofs.am9519a_registers.Tie as tie
 
-is-image-requires : tie.Need-is-image-requires
-is-image-requires c κs = search needs
-
-returns : tie.Need-returns
-unfolding registersCall
-returns c =
-    let told = no-image 9 (c .before .before .before .before .args .image .now) (c .before .before .before .before .args .chip) (c .before .before .before .before .args .view .now) (over (c .before .before .before .before .args .view .now) 0 (tableBytes (tableOf (c .before .before .before .before .args .chip) (chainIn (c .before .before .before .before .args .image .now))))) (sym (c .before .is-image .ensures) ∙ not-true (c .before .is-image .result) (c .if1 .taken)) in
-    (sym (ap (λ r. r .number) told), sym (ap (λ r. r .buffer) told))
-
-chain-in-requires : tie.Need-chain-in-requires
-chain-in-requires c κs = image-length (c .before .before .before .before .args .image .now) (sym (c .before .is-image .ensures) ∙ not-false (c .before .is-image .result) (c .if1 .left))
+chain-of-requires : tie.Need-chain-of-requires
+chain-of-requires c κs = search needs
 
 register-view-requires : tie.Need-register-view-requires
 register-view-requires c κs = search needs
-
-enum-known-seen : tie.Need-enum-known-seen
-enum-known-seen c = search needs
 
 table-bytes-requires : tie.Need-table-bytes-requires
 table-bytes-requires c κs = search needs
@@ -43,46 +23,26 @@ slice-aggregate-put-view c = search needs
 put-view-requires : tie.Need-put-view-requires
 put-view-requires c κs = search needs
 
-enum-known-seen-2 : tie.Need-enum-known-seen-2
-enum-known-seen-2 c = search needs
-
-number-requires : tie.Need-number-requires
-number-requires c κs = search needs
-
 same-length : tie.Need-same-length
 same-length c = search needs
 
-returns-2 : tie.Need-returns-2
+returns : tie.Need-returns
 unfolding registersCall registerView
-returns-2 c =
-    let on : isImage (c .before .before .before .before .before .before .before .before .before .before .before .before .before .before .before .args .image .now) ≡ true = sym (c .before .before .before .before .before .before .before .before .before .before .before .before .is-image .ensures) ∙ not-false (c .before .before .before .before .before .before .before .before .before .before .before .before .is-image .result) (c .before .before .before .before .before .before .before .before .before .before .before .if1 .left) in
-    let told = table-told (viewVerdict (c .before .before .before .before .before .before .before .before .before .before .before .before .before .before .before .args .chip) (chainIn (c .before .before .before .before .before .before .before .before .before .before .before .before .before .before .before .args .image .now))) (tableOf (c .before .before .before .before .before .before .before .before .before .before .before .before .before .before .before .args .chip) (chainIn (c .before .before .before .before .before .before .before .before .before .before .before .before .before .before .before .args .image .now))) _ (sym (c .before .before .before .before .before .before .before .before .before .register-view .ensures ∙ ap (registerView (c .before .before .before .before .before .before .before .before .before .before .before .before .before .before .before .args .chip)) (c .before .before .before .before .before .before .before .before .before .before .chain-in .ensures)) ∙ c .before .before .before .before .before .before .before .seen .given .1) in
-    let goes-on = view-goes-on 9 (c .before .before .before .before .before .before .before .before .before .before .before .before .before .before .before .args .image .now) (c .before .before .before .before .before .before .before .before .before .before .before .before .before .before .before .args .chip) (c .before .before .before .before .before .before .before .before .before .before .before .before .before .before .before .args .view .now) (over (c .before .before .before .before .before .before .before .before .before .before .before .before .before .before .before .args .view .now) 0 (tableBytes (tableOf (c .before .before .before .before .before .before .before .before .before .before .before .before .before .before .before .args .chip) (chainIn (c .before .before .before .before .before .before .before .before .before .before .before .before .before .before .before .args .image .now))))) on (told .0) in
-    let bytes : c .before .before .before .before .before .table-bytes .result ≡ tableBytes (tableOf (c .before .before .before .before .before .before .before .before .before .before .before .before .before .before .before .args .chip) (chainIn (c .before .before .before .before .before .before .before .before .before .before .before .before .before .before .before .args .image .now))) = c .before .before .before .before .before .table-bytes .ensures ∙ ap tableBytes (sym (told .1)) in
-    let same = ap (λ bytes. called (firstOf (shortBuffer (length bytes) (c .before .before .before .before .before .before .before .before .before .before .before .before .before .before .before .args .view .now) ∷ [])) (c .before .before .before .before .before .before .before .before .before .before .before .before .before .before .before .args .view .now) (over (c .before .before .before .before .before .before .before .before .before .before .before .before .before .before .before .args .view .now) 0 bytes)) bytes in
-    (c .before .before .put-view .ensures .0 ∙ ap (λ r. r .number) (same ∙ sym goes-on), c .before .before .put-view .ensures .1 ∙ ap (λ r. r .buffer) (same ∙ sym goes-on))
-
-returns-3 : tie.Need-returns-3
-unfolding registersCall registerView
-returns-3 c =
-    let on : isImage (c .before .before .before .before .before .before .before .before .before .before .args .image .now) ≡ true = sym (c .before .before .before .before .before .before .before .is-image .ensures) ∙ not-false (c .before .before .before .before .before .before .before .is-image .result) (c .before .before .before .before .before .before .if1 .left) in
-    let stops = view-stops 9 (c .before .before .before .before .before .before .before .before .before .before .args .image .now) (c .before .before .before .before .before .before .before .before .before .before .args .chip) (c .before .before .before .before .before .before .before .before .before .before .args .view .now) (over (c .before .before .before .before .before .before .before .before .before .before .args .view .now) 0 (tableBytes (tableOf (c .before .before .before .before .before .before .before .before .before .before .args .chip) (chainIn (c .before .before .before .before .before .before .before .before .before .before .args .image .now))))) _ on (no-table-told (viewVerdict (c .before .before .before .before .before .before .before .before .before .before .args .chip) (chainIn (c .before .before .before .before .before .before .before .before .before .before .args .image .now))) (tableOf (c .before .before .before .before .before .before .before .before .before .before .args .chip) (chainIn (c .before .before .before .before .before .before .before .before .before .before .args .image .now))) _ (sym (c .before .before .before .before .register-view .ensures ∙ ap (registerView (c .before .before .before .before .before .before .before .before .before .before .args .chip)) (c .before .before .before .before .before .chain-in .ensures)) ∙ c .before .before .seen2 .given .1)) in
-    (c .number .ensures ∙ sym (ap (λ r. r .number) stops), sym (ap (λ r. r .buffer) stops))
+returns c =
+    let told =
+    ap (λ bytes. viewed (c .before .before .before .before .before .before .before .register-view .result .verdict) bytes (c .before .before .before .before .before .before .before .before .before .before .before .args .view .now)) (c .before .before .before .before .before .table-bytes .ensures)
+    ∙ ap (λ seen. viewed (seen .verdict) (tableBytes (seen .table)) (c .before .before .before .before .before .before .before .before .before .before .before .args .view .now)) (c .before .before .before .before .before .before .before .register-view .ensures ∙ ap (registerView (c .before .before .before .before .before .before .before .before .before .before .before .args .chip)) (c .before .before .before .before .before .before .before .before .chain-of .ensures))
+    ∙ in-image tableBytes (tableOf (c .before .before .before .before .before .before .before .before .before .before .before .args .chip)) noTable 9 (c .before .before .before .before .before .before .before .before .before .before .before .args .image .now) (c .before .before .before .before .before .before .before .before .before .before .before .args .chip) (c .before .before .before .before .before .before .before .before .before .before .before .args .view .now) refl in
+    (c .before .before .put-view .ensures .0 ∙ ap (λ r. r .number) told, c .before .before .put-view .ensures .1 ∙ ap (λ r. r .buffer) told)
 
 pub am9519a-registers-spec : {M : Type 1} → statement M
 am9519a-registers-spec =
     tie.close
     (tie.spec
-    is-image-requires
-    returns
-    chain-in-requires
+    chain-of-requires
     register-view-requires
-    enum-known-seen
     table-bytes-requires
     slice-aggregate-put-view
     put-view-requires
-    enum-known-seen-2
-    number-requires
     same-length
-    returns-2
-    returns-3)
+    returns)

@@ -4,7 +4,7 @@ use mathlib.Core.Path.{_≡_, sym, ap₂, _∙_}
 use Rattle.page.specs.Page.{pinsLine, registersLine}
 use Rattle.text.specs.Written.{written}
 use Rattle.text.proofs.Written.{again, written-append}
-use Rattle.chain.specs.Views.{registerView, pinView}
+use Rattle.views.specs.Views.{registerView, pinView}
 use borrow.Author.Needs.{needs}
 use Rattle.page.proofs.put_chip.Statement.{statement}
 use Rattle.page.proofs.put_chip.Tie as tie

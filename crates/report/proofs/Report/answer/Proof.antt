@@ -1,9 +1,15 @@
 -- `report::Report::answer` meets its contract.
 -- Assumes nothing.
-use Rattle.report.specs.Report.{answered}
+use mathlib.Core.Path.{sym, ap, _∙_}
+use Rattle.refusal.specs.declared.Verdict.the-variants.{Accepted, Refused}
+use Rattle.report.specs.Report.{byVerdict, stepReply}
+use Rattle.report.proofs.Told.{retold}
 use borrow.Author.Needs.{needs}
 use Rattle.report.proofs.Report.answer.Statement.{statement}
 use Rattle.report.proofs.Report.answer.Tie as tie
+
+verdict-requires : tie.Need-verdict-requires
+verdict-requires c κs = search needs
 
 enum-told : tie.Need-enum-told
 enum-told c = search needs
@@ -14,17 +20,8 @@ put-page-requires c κs = search needs
 goes-on-requires : tie.Need-goes-on-requires
 goes-on-requires c κs = search needs
 
-enum-told-2 : tie.Need-enum-told-2
-enum-told-2 c = search needs
-
-put-page-requires-2 : tie.Need-put-page-requires-2
-put-page-requires-2 c κs = search needs
-
-goes-on-requires-2 : tie.Need-goes-on-requires-2
-goes-on-requires-2 c κs = search needs
-
-enum-known-answer : tie.Need-enum-known-answer
-enum-known-answer c = search needs
+enum-known-verdict : tie.Need-enum-known-verdict
+enum-known-verdict c = search needs
 
 put-refused-requires : tie.Need-put-refused-requires
 put-refused-requires c κs = search needs
@@ -36,48 +33,34 @@ same-length : tie.Need-same-length
 same-length c = search needs
 
 returns : tie.Need-returns
-unfolding answered
-returns c = (
-  simp (c .goes-on .ensures .0, c .before .before .before .before .before .enum-told .given .1),
-  (simp (c .goes-on .ensures .1 .0, c .before .before .before .before .before .enum-told .given .1), simp (c .goes-on .ensures .1 .1, c .before .before .before .put-page .ensures, c .before .before .before .before .before .enum-told .given .1)),
-)
+unfolding stepReply
+returns c =
+    retold (byVerdict Accepted (c .before .before .before .before .before .before .before .before .before .before .args .kind) (c .before .before .before .before .before .before .before .before .before .before .args .outcome .answer) (c .before .before .before .before .before .before .before .before .before .before .args .outcome .chain) (c .before .before .before .before .before .before .before .before .before .before .args .self)) _ (c .before .before .before .before .before .before .before .before .before .before .args .page .now) _ _
+    (ap (λ v. byVerdict v (c .before .before .before .before .before .before .before .before .before .before .args .kind) (c .before .before .before .before .before .before .before .before .before .before .args .outcome .answer) (c .before .before .before .before .before .before .before .before .before .before .args .outcome .chain) (c .before .before .before .before .before .before .before .before .before .before .args .self)) (sym (c .before .before .before .before .before .enum-told .given .1) ∙ c .before .before .before .before .before .before .before .verdict .ensures))
+    (ap (λ t. t .report) (c .goes-on .ensures), (ap (λ t. t .ended) (c .goes-on .ensures), ap (λ t. (c .before .before .before .put-page .last .0, t .length)) (c .goes-on .ensures) ∙ c .before .before .before .put-page .ensures))
 
 same-length-2 : tie.Need-same-length-2
 same-length-2 c = search needs
 
 returns-2 : tie.Need-returns-2
-unfolding answered
-returns-2 c = (
-  simp (c .goes-on2 .ensures .0, c .before .before .before .before .before .enum-told2 .given .1),
-  (simp (c .goes-on2 .ensures .1 .0, c .before .before .before .before .before .enum-told2 .given .1), simp (c .goes-on2 .ensures .1 .1, c .before .before .before .put-page2 .ensures, c .before .before .before .before .before .enum-told2 .given .1)),
-)
-
-same-length-3 : tie.Need-same-length-3
-same-length-3 c = search needs
-
-returns-3 : tie.Need-returns-3
-unfolding answered
-returns-3 c = (
-  simp (c .ends .ensures, c .before .before .before .before .before .before .answer .given .1),
-  (simp (c .ends .ensures, c .before .before .before .before .before .before .answer .given .1), simp (c .ends .ensures, c .before .before .before .put-refused .ensures, c .before .before .before .before .before .before .answer .given .1)),
-)
+unfolding stepReply
+returns-2 c =
+    retold (byVerdict (Refused _) (c .before .before .before .before .before .before .before .before .before .before .before .args .kind) (c .before .before .before .before .before .before .before .before .before .before .before .args .outcome .answer) (c .before .before .before .before .before .before .before .before .before .before .before .args .outcome .chain) (c .before .before .before .before .before .before .before .before .before .before .before .args .self)) _ (c .before .before .before .before .before .before .before .before .before .before .before .args .page .now) _ _
+    (ap (λ v. byVerdict v (c .before .before .before .before .before .before .before .before .before .before .before .args .kind) (c .before .before .before .before .before .before .before .before .before .before .before .args .outcome .answer) (c .before .before .before .before .before .before .before .before .before .before .before .args .outcome .chain) (c .before .before .before .before .before .before .before .before .before .before .before .args .self)) (sym (c .before .before .before .before .before .before .verdict2 .given .1) ∙ c .before .before .before .before .before .before .before .before .verdict .ensures))
+    (ap (λ t. t .report) (c .ends .ensures), (ap (λ t. t .ended) (c .ends .ensures), ap (λ t. (c .before .before .before .put-refused .last .0, t .length)) (c .ends .ensures) ∙ c .before .before .before .put-refused .ensures))
 
 pub answer-spec : {M : Type 1} → statement M
 answer-spec =
     tie.close
     (tie.spec
+    verdict-requires
     enum-told
     put-page-requires
     goes-on-requires
-    enum-told-2
-    put-page-requires-2
-    goes-on-requires-2
-    enum-known-answer
+    enum-known-verdict
     put-refused-requires
     ends-requires
     same-length
     returns
     same-length-2
-    returns-2
-    same-length-3
-    returns-3)
+    returns-2)

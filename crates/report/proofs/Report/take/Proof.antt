@@ -1,11 +1,10 @@
 -- `report::Report::take` meets its contract.
 -- Assumes nothing.
-use mathlib.Core.Path.{sym, ap, ap₂, _∙_}
-use Prim.Native.Nat.{ℕ}
-use Rattle.steps.specs.declared.Kind.{Kind}
-use Rattle.report.specs.Report.{answered, replyTo, reply}
-use Rattle.text.specs.Written.{written}
+use mathlib.Core.Path.{sym, ap, _∙_}
+use Rattle.steps.specs.declared.Step.the-variants.{Nothing}
+use Rattle.report.specs.Report.{stepReply, replyTo, reply}
 use Rattle.text.proofs.Written.{written-none}
+use Rattle.report.proofs.Told.{retold}
 use borrow.Author.Needs.{needs}
 use Rattle.report.proofs.Report.take.Statement.{statement}
 use Rattle.report.proofs.Report.take.Tie as tie
@@ -34,9 +33,6 @@ enum-known-step-2 c = search needs
 on-requires : tie.Need-on-requires
 on-requires c κs = search needs
 
-kind-in-requires : tie.Need-kind-in-requires
-kind-in-requires c κs = search needs
-
 answer-requires-2 : tie.Need-answer-requires-2
 answer-requires-2 c κs = search needs
 
@@ -51,48 +47,42 @@ ends-requires c κs = search needs
 
 returns : tie.Need-returns
 unfolding reply replyTo
-returns c = (
-  c .goes-on .ensures .0 ∙ ap (λ s. replyTo s (c .before .before .before .before .before .before .args .self) .report) (sym (sym (c .before .before .before .step-of .ensures) ∙ c .before .enum-told .given .1)),
-  (
-    c .goes-on .ensures .1 .0 ∙ ap (λ s. replyTo s (c .before .before .before .before .before .before .args .self) .ended) (sym (sym (c .before .before .before .step-of .ensures) ∙ c .before .enum-told .given .1)),
-    ap (λ (k : ℕ). (c .before .before .before .before .before .before .args .page .now, k)) (c .goes-on .ensures .1 .1)
-        ∙ sym (written-none (c .before .before .before .before .before .before .args .page .now, 0))
-        ∙ ap (λ s. written (c .before .before .before .before .before .before .args .page .now, 0) (replyTo s (c .before .before .before .before .before .before .args .self) .print)) (sym (sym (c .before .before .before .step-of .ensures) ∙ c .before .enum-told .given .1)),
-  ),
-)
+returns c =
+    retold (replyTo Nothing (c .before .before .before .before .before .before .args .self)) _ (c .before .before .before .before .before .before .args .page .now) _ _
+    (ap (λ s. replyTo s (c .before .before .before .before .before .before .args .self)) (sym (c .before .enum-told .given .1) ∙ c .before .before .before .step-of .ensures))
+    (ap (λ t. t .report) (c .goes-on .ensures), (ap (λ t. t .ended) (c .goes-on .ensures), ap (λ t. (c .before .before .before .before .before .before .args .page .now, t .length)) (c .goes-on .ensures) ∙ sym (written-none (c .before .before .before .before .before .before .args .page .now, 0))))
 
 same-length : tie.Need-same-length
 same-length c = search needs
 
 returns-2 : tie.Need-returns-2
 unfolding reply replyTo
-returns-2 c = (
-  c .before .before .answer .ensures .0 ∙ ap (λ o. answered Kind.Start (o .answer) (o .chain) (c .before .before .before .before .before .before .before .before .before .before .before .args .self) .report) (c .before .before .before .before .start .ensures) ∙ ap (λ s. replyTo s (c .before .before .before .before .before .before .before .before .before .before .before .args .self) .report) (sym (sym (c .before .before .before .before .before .before .before .before .step-of .ensures) ∙ c .before .before .before .before .before .before .step .given .1)),
-  (c .before .before .answer .ensures .1 .0 ∙ ap (λ o. answered Kind.Start (o .answer) (o .chain) (c .before .before .before .before .before .before .before .before .before .before .before .args .self) .ended) (c .before .before .before .before .start .ensures) ∙ ap (λ s. replyTo s (c .before .before .before .before .before .before .before .before .before .before .before .args .self) .ended) (sym (sym (c .before .before .before .before .before .before .before .before .step-of .ensures) ∙ c .before .before .before .before .before .before .step .given .1)), c .before .before .answer .ensures .1 .1 ∙ ap (λ o. written (c .before .before .before .before .before .before .before .before .before .before .before .args .page .now, 0) (answered Kind.Start (o .answer) (o .chain) (c .before .before .before .before .before .before .before .before .before .before .before .args .self) .print)) (c .before .before .before .before .start .ensures) ∙ ap (λ s. written (c .before .before .before .before .before .before .before .before .before .before .before .args .page .now, 0) (replyTo s (c .before .before .before .before .before .before .before .before .before .before .before .args .self) .print)) (sym (sym (c .before .before .before .before .before .before .before .before .step-of .ensures) ∙ c .before .before .before .before .before .before .step .given .1))),
-)
+returns-2 c =
+    retold _ _ (c .before .before .before .before .before .before .before .before .before .before .before .args .page .now) _ _
+    (ap (λ o. stepReply 0 (o .answer) (o .chain) (c .before .before .before .before .before .before .before .before .before .before .before .args .self)) (c .before .before .before .before .start .ensures)
+    ∙ ap (λ s. replyTo s (c .before .before .before .before .before .before .before .before .before .before .before .args .self)) (sym (c .before .before .before .before .before .before .step .given .1) ∙ c .before .before .before .before .before .before .before .before .step-of .ensures))
+    (c .before .before .answer .ensures)
 
 same-length-2 : tie.Need-same-length-2
 same-length-2 c = search needs
 
 returns-3 : tie.Need-returns-3
 unfolding reply replyTo
-returns-3 c = (
-  c .before .before .answer2 .ensures .0 ∙ ap₂ (λ k o. answered k (o .answer) (o .chain) (c .before .before .before .before .before .before .before .before .before .before .before .before .args .self) .report) (c .before .before .before .before .kind-in .ensures) (c .before .before .before .before .before .on .ensures) ∙ ap (λ s. replyTo s (c .before .before .before .before .before .before .before .before .before .before .before .before .args .self) .report) (sym (sym (c .before .before .before .before .before .before .before .before .before .step-of .ensures) ∙ c .before .before .before .before .before .before .before .step2 .given .1)),
-  (c .before .before .answer2 .ensures .1 .0 ∙ ap₂ (λ k o. answered k (o .answer) (o .chain) (c .before .before .before .before .before .before .before .before .before .before .before .before .args .self) .ended) (c .before .before .before .before .kind-in .ensures) (c .before .before .before .before .before .on .ensures) ∙ ap (λ s. replyTo s (c .before .before .before .before .before .before .before .before .before .before .before .before .args .self) .ended) (sym (sym (c .before .before .before .before .before .before .before .before .before .step-of .ensures) ∙ c .before .before .before .before .before .before .before .step2 .given .1)), c .before .before .answer2 .ensures .1 .1 ∙ ap₂ (λ k o. written (c .before .before .before .before .before .before .before .before .before .before .before .before .args .page .now, 0) (answered k (o .answer) (o .chain) (c .before .before .before .before .before .before .before .before .before .before .before .before .args .self) .print)) (c .before .before .before .before .kind-in .ensures) (c .before .before .before .before .before .on .ensures) ∙ ap (λ s. written (c .before .before .before .before .before .before .before .before .before .before .before .before .args .page .now, 0) (replyTo s (c .before .before .before .before .before .before .before .before .before .before .before .before .args .self) .print)) (sym (sym (c .before .before .before .before .before .before .before .before .before .step-of .ensures) ∙ c .before .before .before .before .before .before .before .step2 .given .1))),
-)
+returns-3 c =
+    retold _ _ (c .before .before .before .before .before .before .before .before .before .before .before .args .page .now) _ _
+    (ap (λ o. stepReply (c .before .before .before .before .before .before .step2 .given .0 .0) (o .answer) (o .chain) (c .before .before .before .before .before .before .before .before .before .before .before .args .self)) (c .before .before .before .before .on .ensures)
+    ∙ ap (λ s. replyTo s (c .before .before .before .before .before .before .before .before .before .before .before .args .self)) (sym (c .before .before .before .before .before .before .step2 .given .1) ∙ c .before .before .before .before .before .before .before .before .step-of .ensures))
+    (c .before .before .answer2 .ensures)
 
 same-length-3 : tie.Need-same-length-3
 same-length-3 c = search needs
 
 returns-4 : tie.Need-returns-4
 unfolding reply replyTo
-returns-4 c = (
-  ap (λ t. t .report) (c .ends .ensures) ∙ ap (λ s. replyTo s (c .before .before .before .before .before .before .before .before .before .before .before .args .self) .report) (sym (sym (c .before .before .before .before .before .before .before .before .step-of .ensures) ∙ c .before .before .before .before .before .before .step3 .given .1)),
-  (
-    ap (λ t. t .ended) (c .ends .ensures) ∙ ap (λ s. replyTo s (c .before .before .before .before .before .before .before .before .before .before .before .args .self) .ended) (sym (sym (c .before .before .before .before .before .before .before .before .step-of .ensures) ∙ c .before .before .before .before .before .before .step3 .given .1)),
-    ap (λ t. (c .before .before .before .put-malformed .last .0, t .length)) (c .ends .ensures) ∙ c .before .before .before .put-malformed .ensures ∙ ap (λ s. written (c .before .before .before .before .before .before .before .before .before .before .before .args .page .now, 0) (replyTo s (c .before .before .before .before .before .before .before .before .before .before .before .args .self) .print)) (sym (sym (c .before .before .before .before .before .before .before .before .step-of .ensures) ∙ c .before .before .before .before .before .before .step3 .given .1)),
-  ),
-)
+returns-4 c =
+    retold _ _ (c .before .before .before .before .before .before .before .before .before .before .before .args .page .now) _ _
+    (ap (λ s. replyTo s (c .before .before .before .before .before .before .before .before .before .before .before .args .self)) (sym (c .before .before .before .before .before .before .step3 .given .1) ∙ c .before .before .before .before .before .before .before .before .step-of .ensures))
+    (ap (λ t. t .report) (c .ends .ensures), (ap (λ t. t .ended) (c .ends .ensures), ap (λ t. (c .before .before .before .put-malformed .last .0, t .length)) (c .ends .ensures) ∙ c .before .before .before .put-malformed .ensures))
 
 pub take-spec : {M : Type 1} → statement M
 take-spec =
@@ -106,7 +96,6 @@ take-spec =
     answer-requires
     enum-known-step-2
     on-requires
-    kind-in-requires
     answer-requires-2
     enum-known-step-3
     put-malformed-requires

@@ -1,12 +1,12 @@
 -- `report::Report::take_last` meets its contract.
 -- Assumes nothing.
 use mathlib.Core.Path.{sym, ap, _∙_}
+use Rattle.messages.specs.Messages.{malformedLine}
 use Rattle.steps.specs.declared.Expected.the-variants.{TheStart}
-use Rattle.report.specs.Messages.{malformedLine}
+use Rattle.text.proofs.Written.{again, written-append}
 use Rattle.report.specs.Report.{reply, lastReply}
 use Rattle.report.proofs.Closed.{over, whole, lacks}
-use Rattle.text.specs.Written.{written}
-use Rattle.text.proofs.Written.{again, written-append}
+use Rattle.report.proofs.Told.{retold}
 use borrow.Author.Needs.{needs}
 use Rattle.report.proofs.Report.take_last.Statement.{statement}
 use Rattle.report.proofs.Report.take_last.Tie as tie
@@ -19,10 +19,7 @@ same-length c = search needs
 
 returns : tie.Need-returns
 unfolding lastReply
-returns c = (
-  c .before .before .before .take .ensures .0 ∙ ap (λ s. s .report) (sym (over (reply (c .before .before .before .before .before .before .before .args .line .now) (c .before .before .before .before .before .before .before .args .self)) (c .before .before .before .before .before .before .before .args .self .line) (sym (c .before .before .before .take .ensures .1 .0) ∙ c .if1 .taken))),
-  (c .before .before .before .take .ensures .1 .0 ∙ ap (λ s. s .ended) (sym (over (reply (c .before .before .before .before .before .before .before .args .line .now) (c .before .before .before .before .before .before .before .args .self)) (c .before .before .before .before .before .before .before .args .self .line) (sym (c .before .before .before .take .ensures .1 .0) ∙ c .if1 .taken))), c .before .before .before .take .ensures .1 .1 ∙ ap (λ s. written (c .before .before .before .before .before .before .before .args .page .now, 0) (s .print)) (sym (over (reply (c .before .before .before .before .before .before .before .args .line .now) (c .before .before .before .before .before .before .before .args .self)) (c .before .before .before .before .before .before .before .args .self .line) (sym (c .before .before .before .take .ensures .1 .0) ∙ c .if1 .taken)))),
-)
+returns c = retold _ _ (c .before .before .before .before .before .before .before .args .page .now) _ _ (sym (over (reply (c .before .before .before .before .before .before .before .args .line .now) (c .before .before .before .before .before .before .before .args .self)) (c .before .before .before .before .before .before .before .args .self .line) (sym (c .before .before .before .take .ensures .1 .0) ∙ c .if1 .taken))) (c .before .before .before .take .ensures)
 
 ends-requires : tie.Need-ends-requires
 ends-requires c κs = search needs
@@ -32,13 +29,10 @@ same-length-2 c = search needs
 
 returns-2 : tie.Need-returns-2
 unfolding lastReply
-returns-2 c = (
-  ap (λ t. t .report) (c .ends .ensures) ∙ c .before .before .before .before .before .before .take .ensures .0 ∙ ap (λ s. s .report) (sym (whole (reply (c .before .before .before .before .before .before .before .before .before .before .args .line .now) (c .before .before .before .before .before .before .before .before .before .before .args .self)) (c .before .before .before .before .before .before .before .before .before .before .args .self .line) (sym (c .before .before .before .before .before .before .take .ensures .1 .0) ∙ c .before .before .before .if1 .left) (sym (ap (λ r. r .started) (c .before .before .before .before .before .before .take .ensures .0)) ∙ c .before .if2 .taken))),
-  (
-    ap (λ t. t .ended) (c .ends .ensures) ∙ ap (λ s. s .ended) (sym (whole (reply (c .before .before .before .before .before .before .before .before .before .before .args .line .now) (c .before .before .before .before .before .before .before .before .before .before .args .self)) (c .before .before .before .before .before .before .before .before .before .before .args .self .line) (sym (c .before .before .before .before .before .before .take .ensures .1 .0) ∙ c .before .before .before .if1 .left) (sym (ap (λ r. r .started) (c .before .before .before .before .before .before .take .ensures .0)) ∙ c .before .if2 .taken))),
-    ap (λ t. (c .before .before .before .before .before .before .take .last .1 .1 .0, t .length)) (c .ends .ensures) ∙ c .before .before .before .before .before .before .take .ensures .1 .1 ∙ ap (λ s. written (c .before .before .before .before .before .before .before .before .before .before .args .page .now, 0) (s .print)) (sym (whole (reply (c .before .before .before .before .before .before .before .before .before .before .args .line .now) (c .before .before .before .before .before .before .before .before .before .before .args .self)) (c .before .before .before .before .before .before .before .before .before .before .args .self .line) (sym (c .before .before .before .before .before .before .take .ensures .1 .0) ∙ c .before .before .before .if1 .left) (sym (ap (λ r. r .started) (c .before .before .before .before .before .before .take .ensures .0)) ∙ c .before .if2 .taken))),
-  ),
-)
+returns-2 c =
+    retold _ _ (c .before .before .before .before .before .before .before .before .before .before .args .page .now) _ _
+    (sym (whole (reply (c .before .before .before .before .before .before .before .before .before .before .args .line .now) (c .before .before .before .before .before .before .before .before .before .before .args .self)) (c .before .before .before .before .before .before .before .before .before .before .args .self .line) (sym (c .before .before .before .before .before .before .take .ensures .1 .0) ∙ c .before .before .before .if1 .left) (sym (ap (λ r. r .started) (c .before .before .before .before .before .before .take .ensures .0)) ∙ c .before .if2 .taken)))
+    (ap (λ t. t .report) (c .ends .ensures) ∙ c .before .before .before .before .before .before .take .ensures .0, (ap (λ t. t .ended) (c .ends .ensures), ap (λ t. (c .before .before .before .before .before .before .take .last .1 .1 .0, t .length)) (c .ends .ensures) ∙ c .before .before .before .before .before .before .take .ensures .1 .1))
 
 put-malformed-requires : tie.Need-put-malformed-requires
 put-malformed-requires c κs = search needs
@@ -51,17 +45,18 @@ same-length-3 c = search needs
 
 returns-3 : tie.Need-returns-3
 unfolding lastReply
-returns-3 c = (
-  ap (λ t. t .report) (c .ends2 .ensures) ∙ c .before .before .before .before .before .before .before .before .before .before .take .ensures .0 ∙ ap (λ s. s .report) (sym (lacks (reply (c .before .before .before .before .before .before .before .before .before .before .before .before .before .before .args .line .now) (c .before .before .before .before .before .before .before .before .before .before .before .before .before .before .args .self)) (c .before .before .before .before .before .before .before .before .before .before .before .before .before .before .args .self .line) (sym (c .before .before .before .before .before .before .before .before .before .before .take .ensures .1 .0) ∙ c .before .before .before .before .before .before .before .if1 .left) (sym (ap (λ r. r .started) (c .before .before .before .before .before .before .before .before .before .before .take .ensures .0)) ∙ c .before .before .before .before .before .if2 .left))),
-  (
-    ap (λ t. t .ended) (c .ends2 .ensures) ∙ ap (λ s. s .ended) (sym (lacks (reply (c .before .before .before .before .before .before .before .before .before .before .before .before .before .before .args .line .now) (c .before .before .before .before .before .before .before .before .before .before .before .before .before .before .args .self)) (c .before .before .before .before .before .before .before .before .before .before .before .before .before .before .args .self .line) (sym (c .before .before .before .before .before .before .before .before .before .before .take .ensures .1 .0) ∙ c .before .before .before .before .before .before .before .if1 .left) (sym (ap (λ r. r .started) (c .before .before .before .before .before .before .before .before .before .before .take .ensures .0)) ∙ c .before .before .before .before .before .if2 .left))),
-    ap (λ t. (c .before .before .before .put-malformed .last .0, t .length)) (c .ends2 .ensures)
-        ∙ c .before .before .before .put-malformed .ensures
-        ∙ again _ (c .before .before .before .before .before .before .before .before .before .before .take .ensures .1 .1)
-        ∙ sym (written-append (c .before .before .before .before .before .before .before .before .before .before .before .before .before .before .args .page .now, 0) ((reply (c .before .before .before .before .before .before .before .before .before .before .before .before .before .before .args .line .now) (c .before .before .before .before .before .before .before .before .before .before .before .before .before .before .args .self)) .print) (malformedLine (c .before .before .before .before .before .before .before .before .before .before .before .before .before .before .args .self .line) TheStart))
-        ∙ ap (λ s. written (c .before .before .before .before .before .before .before .before .before .before .before .before .before .before .args .page .now, 0) (s .print)) (sym (lacks (reply (c .before .before .before .before .before .before .before .before .before .before .before .before .before .before .args .line .now) (c .before .before .before .before .before .before .before .before .before .before .before .before .before .before .args .self)) (c .before .before .before .before .before .before .before .before .before .before .before .before .before .before .args .self .line) (sym (c .before .before .before .before .before .before .before .before .before .before .take .ensures .1 .0) ∙ c .before .before .before .before .before .before .before .if1 .left) (sym (ap (λ r. r .started) (c .before .before .before .before .before .before .before .before .before .before .take .ensures .0)) ∙ c .before .before .before .before .before .if2 .left))),
-  ),
-)
+returns-3 c =
+    retold _ _ (c .before .before .before .before .before .before .before .before .before .before .before .before .before .before .args .page .now) _ _
+    (sym (lacks (reply (c .before .before .before .before .before .before .before .before .before .before .before .before .before .before .args .line .now) (c .before .before .before .before .before .before .before .before .before .before .before .before .before .before .args .self)) (c .before .before .before .before .before .before .before .before .before .before .before .before .before .before .args .self .line) (sym (c .before .before .before .before .before .before .before .before .before .before .take .ensures .1 .0) ∙ c .before .before .before .before .before .before .before .if1 .left) (sym (ap (λ r. r .started) (c .before .before .before .before .before .before .before .before .before .before .take .ensures .0)) ∙ c .before .before .before .before .before .if2 .left))) (
+      ap (λ t. t .report) (c .ends2 .ensures) ∙ c .before .before .before .before .before .before .before .before .before .before .take .ensures .0,
+      (
+        ap (λ t. t .ended) (c .ends2 .ensures),
+        ap (λ t. (c .before .before .before .put-malformed .last .0, t .length)) (c .ends2 .ensures)
+            ∙ c .before .before .before .put-malformed .ensures
+            ∙ again _ (c .before .before .before .before .before .before .before .before .before .before .take .ensures .1 .1)
+            ∙ sym (written-append (c .before .before .before .before .before .before .before .before .before .before .before .before .before .before .args .page .now, 0) (reply (c .before .before .before .before .before .before .before .before .before .before .before .before .before .before .args .line .now) (c .before .before .before .before .before .before .before .before .before .before .before .before .before .before .args .self) .print) (malformedLine (c .before .before .before .before .before .before .before .before .before .before .before .before .before .before .args .self .line) TheStart)),
+      ),
+    )
 
 pub take-last-spec : {M : Type 1} → statement M
 take-last-spec =

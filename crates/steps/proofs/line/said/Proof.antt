@@ -1,6 +1,5 @@
 -- `steps::line::said` meets its contract.
 -- Assumes nothing.
-use borrow.Author.Tests.{eq-eqb, ne-eqb}
 use borrow.Author.Needs.{needs}
 use Rattle.steps.proofs.line.said.Statement.{statement}
 use Rattle.steps.proofs.line.said.Tie as tie
@@ -72,10 +71,7 @@ returns-7 : tie.Need-returns-7
 returns-7 c = simp (c .decimal-in4 .ensures, c .before .enum-told7 .given .1)
 
 returns-8 : tie.Need-returns-8
-returns-8 c = simp (c .before .enum-told8 .given .1, eq-eqb _ _ (c .if1 .taken))
-
-returns-9 : tie.Need-returns-9
-returns-9 c = simp (c .before .enum-told8 .given .1, ne-eqb _ _ (c .if1 .left))
+returns-8 c = search needs
 
 pub said-spec : {M : Type 1} → statement M
 said-spec =
@@ -103,5 +99,4 @@ said-spec =
     returns-5
     returns-6
     returns-7
-    returns-8
-    returns-9)
+    returns-8)
