@@ -13,7 +13,8 @@ use Rattle.refusal.specs.declared.Verdict.{Verdict}
 use Rattle.refusal.specs.declared.Verdict.the-variants.{Refused}
 use Rattle.chain.proofs.Rules.{rules}
 use Rattle.chain.specs.Fields.{zeroChain}
-use Rattle.chain.specs.Refusals.{notSound, noSuchChip}
+use Rattle.decide.specs.Refusals.{noSuchChip}
+use Rattle.chain.specs.Refusals.{notSound}
 use Rattle.chain.specs.declared.Chain.{Chain}
 use Rattle.views.specs.Views.{viewVerdict}
 use Rattle.image.specs.Layout.{over}
@@ -32,13 +33,13 @@ of-image bytes shown none n image chip view long on = either (isAccepted (viewVe
         viewed (viewVerdict chip (chainIn image)) (bytes (cond ok shown none)) view ≡ called (viewCheck n image chip view) view (over view 0 (bytes shown))
     either true ok =
         let goes-on : viewCheck n image chip view ≡ firstOf (shortBuffer n view ∷ []) =
-        ap (λ is. cond (not is) (Refused NotSound) (firstOf (notSound (chainIn image) ∷ noSuchChip chip (chainIn image) ∷ shortBuffer n view ∷ []))) on
-        ∙ accepted-so-far (notSound (chainIn image) ∷ noSuchChip chip (chainIn image) ∷ []) (shortBuffer n view ∷ []) ok in
+        ap (λ is. cond (not is) (Refused NotSound) (firstOf (notSound (chainIn image) ∷ noSuchChip (chainIn image .count) chip ∷ shortBuffer n view ∷ []))) on
+        ∙ accepted-so-far (notSound (chainIn image) ∷ noSuchChip (chainIn image .count) chip ∷ []) (shortBuffer n view ∷ []) ok in
         simp (ok, long, goes-on)
     either false ok =
         let stops : viewCheck n image chip view ≡ viewVerdict chip (chainIn image) =
-        ap (λ is. cond (not is) (Refused NotSound) (firstOf (notSound (chainIn image) ∷ noSuchChip chip (chainIn image) ∷ shortBuffer n view ∷ []))) on
-        ∙ refused-already (notSound (chainIn image) ∷ noSuchChip chip (chainIn image) ∷ []) (shortBuffer n view ∷ []) ok in
+        ap (λ is. cond (not is) (Refused NotSound) (firstOf (notSound (chainIn image) ∷ noSuchChip (chainIn image .count) chip ∷ shortBuffer n view ∷ []))) on
+        ∙ refused-already (notSound (chainIn image) ∷ noSuchChip (chainIn image .count) chip ∷ []) (shortBuffer n view ∷ []) ok in
         simp (stops, ok)
 
 -- and what is no image is refused by 1, as a chain that is not sound is

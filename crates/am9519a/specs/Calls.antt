@@ -12,7 +12,8 @@ use Rattle.refusal.specs.declared.Verdict.{Verdict}
 use Rattle.refusal.specs.declared.Verdict.the-variants.{Refused}
 use Rattle.refusal.specs.Answers.{verdictIn}
 use Rattle.chain.specs.Fields.{zeroChain}
-use Rattle.chain.specs.Refusals.{notSound, noSuchChip}
+use Rattle.decide.specs.Refusals.{noSuchChip}
+use Rattle.chain.specs.Refusals.{notSound}
 use Rattle.chain.specs.Start.{startOf}
 use Rattle.chain.specs.declared.Chain.{Chain}
 use Rattle.views.specs.Views.{tableOf, pictureOf}
@@ -60,7 +61,7 @@ pictureBytes p =
 -- a view into a buffer of at least n bytes: 1, 2 and 11
 abbrev pub viewCheck : ℕ → List ℕ → ℕ → List ℕ → Verdict
 viewCheck n image chip view =
-    firstOf (notAnImage image ∷ notSound (chainIn image) ∷ noSuchChip chip (chainIn image) ∷ shortBuffer n view ∷ [])
+    firstOf (notAnImage image ∷ notSound (chainIn image) ∷ noSuchChip (chainIn image .count) chip ∷ shortBuffer n view ∷ [])
 
 -- the chain in an image; where there is none, one that is not sound
 abbrev pub chainOf : List ℕ → Chain
@@ -88,6 +89,10 @@ pub record RunCalled : Type 0 where
   pub results : List ℕ
   pub accepted : ℕ
 
+-- what a run's call hands back, and what it leaves in the image, the results and the accepted count
+abbrev pub runLeft : ℕ → List ℕ → List ℕ → ℕ → RunCalled
+runLeft number image results accepted = record { number = number; image = image; results = results; accepted = accepted }
+
 -- what a run takes before any event: 1, 10 and 11
 abbrev pub runCheck : List ℕ → List ℕ → List ℕ → Verdict
 runCheck image events results =
@@ -98,5 +103,5 @@ unfoldable pub runCall : List ℕ → List ℕ → ℕ → List ℕ → ℕ → 
 runCall image events limit results accepted =
     let r : Report = runOf (chainIn image) events limit results in
     cond (isAccepted (runCheck image events results))
-    (record { number = verdictNumber (r .ran .verdict); image = imageOf (r .ran .chain); results = r .results; accepted = r .ran .accepted })
-    (record { number = verdictNumber (runCheck image events results); image = image; results = results; accepted = accepted })
+    (runLeft (verdictNumber (r .ran .verdict)) (imageOf (r .ran .chain)) (r .results) (r .ran .accepted))
+    (runLeft (verdictNumber (runCheck image events results)) image results accepted)

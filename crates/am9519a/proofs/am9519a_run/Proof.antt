@@ -10,6 +10,8 @@ use Rattle.image.specs.Layout.{imageOf}
 use Rattle.image.specs.Reading.{isImage, chainIn}
 use Rattle.image.proofs.OneToOne.{image-length, written-back}
 use Rattle.am9519a.proofs.Told.{run-no-image, run-refused, run-done}
+use Rattle.run.specs.Run.{Report}
+use Rattle.am9519a.specs.Calls.{runLeft}
 use Rattle.am9519a.proofs.am9519a_run.Statement.{statement}
 use Rattle.am9519a.proofs.am9519a_run.Tie as tie
 
@@ -22,7 +24,7 @@ same-length c = search needs
 returns : tie.Need-returns
 returns c =
     let told = run-no-image (c .before .before .before .before .before .before .args .image .now) (c .before .before .before .before .before .before .args .events .now) (c .before .before .before .before .before .before .args .limit) (c .before .before .before .before .before .before .args .results .now) (c .before .before .before .before .before .before .args .accepted .now) (sym (c .before .is-image .ensures) ∙ not-true (c .before .is-image .result) (c .if1 .taken)) in
-    (sym (ap (λ r. r .number) told), (sym (ap (λ r. r .image) told), (sym (ap (λ r. r .results) told), sym (ap (λ r. r .accepted) told))))
+    sym told
 
 chain-in-requires : tie.Need-chain-in-requires
 chain-in-requires c κs = image-length (c .before .before .before .before .before .before .before .args .image .now) (sym (c .before .before .is-image .ensures) ∙ not-false (c .before .before .is-image .result) (c .before .if1 .left))
@@ -45,7 +47,7 @@ returns-2 c =
     let on : isImage (c .before .before .before .before .before .before .before .before .before .before .before .before .args .image .now) ≡ true = sym (c .before .before .before .before .before .before .before .is-image .ensures) ∙ not-false (c .before .before .before .before .before .before .before .is-image .result) (c .before .before .before .before .before .before .if1 .left) in
     let is : c .before .before .before .before-any .result ≡ beforeAny (chainIn (c .before .before .before .before .before .before .before .before .before .before .before .before .args .image .now)) (c .before .before .before .before .before .before .before .before .before .before .before .before .args .events .now) (c .before .before .before .before .before .before .before .before .before .before .before .before .args .results .now) = c .before .before .before .before-any .ensures ∙ ap (λ s. beforeAny s (c .before .before .before .before .before .before .before .before .before .before .before .before .args .events .now) (c .before .before .before .before .before .before .before .before .before .before .before .before .args .results .now)) (c .before .before .before .before .chain-in .ensures) in
     let told = run-refused (c .before .before .before .before .before .before .before .before .before .before .before .before .args .image .now) (c .before .before .before .before .before .before .before .before .before .before .before .before .args .events .now) (c .before .before .before .before .before .before .before .before .before .before .before .before .args .limit) (c .before .before .before .before .before .before .before .before .before .before .before .before .args .results .now) (c .before .before .before .before .before .before .before .before .before .before .before .before .args .accepted .now) (c .before .before .before .before-any .result) on is (sym (c .before .before .is-accepted .ensures) ∙ not-true (c .before .before .is-accepted .result) (c .before .if2 .taken)) in
-    (c .number .ensures ∙ sym (ap (λ r. r .number) told), (sym (ap (λ r. r .image) told), (sym (ap (λ r. r .results) told), sym (ap (λ r. r .accepted) told))))
+    ap (λ n. runLeft n (c .before .before .before .before .before .before .before .before .before .before .before .before .args .image .now) (c .before .before .before .before .before .before .before .before .before .before .before .before .args .results .now) (c .before .before .before .before .before .before .before .before .before .before .before .before .args .accepted .now)) (c .number .ensures) ∙ sym told
 
 run-in-requires : tie.Need-run-in-requires
 unfolding beforeAny
@@ -69,13 +71,11 @@ returns-3 c =
     let on : isImage (c .before .before .before .before .before .before .before .before .before .before .before .before .before .before .before .before .before .before .before .args .image .now) ≡ true = sym (c .before .before .before .before .before .before .before .before .before .before .before .before .before .before .is-image .ensures) ∙ not-false (c .before .before .before .before .before .before .before .before .before .before .before .before .before .before .is-image .result) (c .before .before .before .before .before .before .before .before .before .before .before .before .before .if1 .left) in
     let is : c .before .before .before .before .before .before .before .before .before .before .before-any .result ≡ beforeAny (chainIn (c .before .before .before .before .before .before .before .before .before .before .before .before .before .before .before .before .before .before .before .args .image .now)) (c .before .before .before .before .before .before .before .before .before .before .before .before .before .before .before .before .before .before .before .args .events .now) (c .before .before .before .before .before .before .before .before .before .before .before .before .before .before .before .before .before .before .before .args .results .now) = c .before .before .before .before .before .before .before .before .before .before .before-any .ensures ∙ ap (λ s. beforeAny s (c .before .before .before .before .before .before .before .before .before .before .before .before .before .before .before .before .before .before .before .args .events .now) (c .before .before .before .before .before .before .before .before .before .before .before .before .before .before .before .before .before .before .before .args .results .now)) (c .before .before .before .before .before .before .before .before .before .before .before .chain-in .ensures) in
     let go : isAccepted (c .before .before .before .before .before .before .before .before .before .before .before-any .result) ≡ true = sym (c .before .before .before .before .before .before .before .before .before .is-accepted .ensures) ∙ not-false (c .before .before .before .before .before .before .before .before .before .is-accepted .result) (c .before .before .before .before .before .before .before .before .if2 .left) in
-    let told = run-done (c .before .before .before .before .before .before .before .before .before .before .before .before .before .before .before .before .before .before .before .args .image .now) (c .before .before .before .before .before .before .before .before .before .before .before .before .before .before .before .before .before .before .before .args .events .now) (c .before .before .before .before .before .before .before .before .before .before .before .before .before .before .before .before .before .before .before .args .limit) (c .before .before .before .before .before .before .before .before .before .before .before .before .before .before .before .before .before .before .before .args .results .now) (c .before .before .before .before .before .before .before .before .before .before .before .before .before .before .before .before .before .before .before .args .accepted .now) (c .before .before .before .before .before .before .before .before .before .before .before-any .result) on is go in (
-      c .number2 .ensures ∙ ap verdictNumber (c .before .before .before .before .before .run-in .ensures .0) ∙ sym (ap (λ r. r .number) told),
-      (
-        sym (written-back (c .before .before .before .before .before .run-in .last .0) (c .before .before .before .before .before .run-in .ensures .1 .1 .0)) ∙ ap imageOf (c .before .before .before .before .before .run-in .ensures .1 .1 .1 .0) ∙ sym (ap (λ r. r .image) told),
-        (c .before .before .before .before .before .run-in .ensures .1 .1 .1 .1 ∙ sym (ap (λ r. r .results) told), c .before .before .before .before .before .run-in .ensures .1 .0 ∙ sym (ap (λ r. r .accepted) told)),
-      ),
-    )
+    let told = run-done (c .before .before .before .before .before .before .before .before .before .before .before .before .before .before .before .before .before .before .before .args .image .now) (c .before .before .before .before .before .before .before .before .before .before .before .before .before .before .before .before .before .before .before .args .events .now) (c .before .before .before .before .before .before .before .before .before .before .before .before .before .before .before .before .before .before .before .args .limit) (c .before .before .before .before .before .before .before .before .before .before .before .before .before .before .before .before .before .before .before .args .results .now) (c .before .before .before .before .before .before .before .before .before .before .before .before .before .before .before .before .before .before .before .args .accepted .now) (c .before .before .before .before .before .before .before .before .before .before .before-any .result) on is go in
+    ap (λ n. runLeft n (c .before .before .before .before .before .run-in .last .0) (c .before .before .before .before .before .run-in .last .1 .1 .1 .0) (c .before .before .before .before .before .run-in .result .accepted)) (c .number2 .ensures)
+    ∙ ap (λ i. runLeft (verdictNumber (c .before .before .before .before .before .run-in .result .verdict)) i (c .before .before .before .before .before .run-in .last .1 .1 .1 .0) (c .before .before .before .before .before .run-in .result .accepted)) (sym (written-back (c .before .before .before .before .before .run-in .last .0) (c .before .before .before .before .before .run-in .ensures .0)))
+    ∙ ap (λ (r : Report). runLeft (verdictNumber (r .ran .verdict)) (imageOf (r .ran .chain)) (r .results) (r .ran .accepted)) (c .before .before .before .before .before .run-in .ensures .1)
+    ∙ sym told
 
 pub am9519a-run-spec : {M : Type 1} → statement M
 am9519a-run-spec =
