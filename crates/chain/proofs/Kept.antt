@@ -21,6 +21,7 @@ use Rattle.chip.proofs.Kept.{power-up-sound}
 use Rattle.chip.specs.Fields.{zeroChip}
 use Rattle.chip.specs.Reset.{powerUp}
 use Rattle.chip.specs.Sound.{chipSound}
+use Rattle.chip.specs.declared.Chip.{Chip}
 use Rattle.response.specs.Sound.{responseSound}
 use Rattle.response.specs.declared.Response.{Response}
 use Rattle.decide.proofs.Kept.{KeepsSound, AtResponding, decided-kept}
@@ -37,24 +38,42 @@ use Rattle.chain.specs.Start.{started, startOf}
 use Rattle.chain.specs.declared.Chain.{Chain}
 use Rattle.chain.specs.declared.Outcome.{Outcome}
 use Rattle.chain.proofs.Passed.{passed-sound, passed-tests}
-use Rattle.chain.proofs.Rules.{chainFields}
+use Rattle.chain.proofs.Rules.{chainFields, applying}
 use Rattle.chain.proofs.Soundness.{SoundChain, parts, whole, chip-sound, seen-sound}
 
 -- each chip of a chain to which a change is applied is one of before, or the one that the change puts there
-applied-chip : (c : Change) (s : Chain) (k : ℕ) → (c .replaces ≡ true → chipSound (c .chip) ≡ true) → chipSound (chipAt s k) ≡ true → chipSound (chipAt (applied c s) k) ≡ true
-unfolding chainFields applied replacedIn
-applied-chip c s k new old =
-    either (λ (t : Chain). chipSound (chipAt t k) ≡ true) (c .replaces) _ s
-    (λ put. ⊎-elim (λ is. ap chipSound is ∙ new put) (λ is. ap chipSound is ∙ old) (stored (s .chips) (c .at) k (c .chip) zeroChip))
-    (λ none. old)
+pub applied-chips : (P : Chip → Type 0) (c : Change) (s : Chain) (k : ℕ) → (c .replaces ≡ true → P (c .chip)) → P (chipAt s k) → P (chipAt (applied c s) k)
+unfolding applying
+applied-chips P c s k new old =
+    either (λ (t : Chain). P (chipAt t k)) (c .sets) _ _ (λ set. replaced) (λ none. replaced)
+  where
+    replaced : P (chipAt (replacedIn c s) k)
+    replaced =
+        either (λ (t : Chain). P (chipAt t k)) (c .replaces) _ s
+        (λ put. ⊎-elim (λ is. subst P (sym is) (new put)) (λ is. subst P (sym is) old) (stored (s .chips) (c .at) k (c .chip) zeroChip))
+        (λ none. old)
 
-applied-count : (c : Change) (s : Chain) → applied c s .count ≡ s .count
-unfolding chainFields applied replacedIn
-applied-count c s = either (λ (t : Chain). t .count ≡ s .count) (c .replaces) _ _ (λ put. refl) (λ none. refl)
+pub applied-count : (c : Change) (s : Chain) → applied c s .count ≡ s .count
+unfolding applying
+applied-count c s = either (λ (t : Chain). t .count ≡ s .count) (c .sets) _ _ (λ set. replaced) (λ none. replaced)
+  where
+    replaced : replacedIn c s .count ≡ s .count
+    replaced = either (λ (t : Chain). t .count ≡ s .count) (c .replaces) _ _ (λ put. refl) (λ none. refl)
+
+-- its response and the level of IACK are those of before, or those that it sets
+applied-response : (c : Change) (s : Chain) → (c .sets ≡ true → responseSound (s .count) (c .iack) (c .response) ≡ true)
+    → responseSound (s .count) (s .iack) (s .response) ≡ true
+    → responseSound (s .count) (applied c s .iack) (applied c s .response) ≡ true
+unfolding applying
+applied-response c s new old =
+    either (λ (t : Chain). responseSound (s .count) (t .iack) (t .response) ≡ true) (c .sets) _ _ new (λ none. replaced)
+  where
+    replaced : responseSound (s .count) (replacedIn c s .iack) (replacedIn c s .response) ≡ true
+    replaced = either (λ (t : Chain). responseSound (s .count) (t .iack) (t .response) ≡ true) (c .replaces) _ s (λ put. old) (λ none. old)
 
 -- a change that keeps what is seen sound keeps the chain sound
 applied-kept : (c : Change) (s : Chain) (at : ℕ) (ei : Bool) → KeepsSound (seenAt at ei s) c → sound s ≡ true → sound (applied c s) ≡ true
-unfolding chainFields applied chipsSound seenAt
+unfolding chipsSound seenAt
 applied-kept c s at ei k e =
     let p = parts s e in
     let n : applied c s .count ≡ s .count = applied-count c s in
@@ -62,8 +81,8 @@ applied-kept c s at ei k e =
       at-least-one = ap (leb 1) n ∙ p .at-least-one;
       at-most-eight = ap (λ (n : ℕ). leb n 8) n ∙ p .at-most-eight;
       chips = every-all (applied c s .count) (λ i. chipSound (chipAt (applied c s) i))
-          (λ i h. applied-chip c s i (k .chip) (chip-sound s i e (subst (λ (n : ℕ). i < n) n h)));
-      response = ap (λ (n : ℕ). responseSound n (c .iack) (c .response)) n ∙ k .response;
+          (λ i h. applied-chips (λ (c : Chip). chipSound c ≡ true) c s i (k .chip) (chip-sound s i e (subst (λ (n : ℕ). i < n) n h)));
+      response = ap (λ (n : ℕ). responseSound n (applied c s .iack) (applied c s .response)) n ∙ applied-response c s (k .response) (p .response);
     }
 
 -- a rise looks at the chip that responds

@@ -13,12 +13,16 @@ use Rattle.chain.specs.Apply.{replacedIn, applied, decision, counted}
 use Rattle.chain.specs.Events.{accepted, refused, judged, eventOf}
 use Rattle.chain.specs.Refusals.{verdictOf}
 use Rattle.chain.specs.declared.Chain.{Chain}
-use Rattle.chain.proofs.Rules.{chainFields}
+use Rattle.chain.proofs.Rules.{chainFields, applying}
 
 -- what an event does besides counting itself leaves the number alone
 pub applied-number : (c : Change) (s : Chain) → applied c s .event ≡ s .event
-unfolding chainFields applied replacedIn
-applied-number c s = either (λ (t : Chain). t .event ≡ s .event) (c .replaces) _ _ (λ put. refl) (λ none. refl)
+unfolding applying
+applied-number c s =
+    either (λ (t : Chain). t .event ≡ s .event) (c .sets) _ _ (λ set. replaced) (λ none. replaced)
+  where
+    replaced : replacedIn c s .event ≡ s .event
+    replaced = either (λ (t : Chain). t .event ≡ s .event) (c .replaces) _ _ (λ put. refl) (λ none. refl)
 
 judged-counts : (v : Verdict) (e : Event) (s : Chain) → handed (judged v e s .answer) .number ≡ 0 → judged v e s .chain .event ≡ (s .event + 1) % 65536
 unfolding judged accepted refused counted chainFields

@@ -3,7 +3,7 @@
 -- Assumes nothing.
 use Rattle.chip.proofs.Rules.{chipRules}
 use Rattle.decide.proofs.Rules.{decisions}
-use Rattle.chain.specs.Apply.{replacedIn, applied, decision, changed, counted}
+use Rattle.chain.specs.Apply.{replacedIn, setIn, applied, decision, changed, counted}
 use Rattle.chain.specs.Events.{accepted, refused, judged, eventOf}
 use Rattle.chain.specs.Fields.{withChips, withChip, withEnable, withIack, withResponse, withEvent, zeroChain}
 use Rattle.chain.specs.Pins.{ei}
@@ -18,6 +18,11 @@ unfoldable pub chainFields : Unit {0}
 unfolding withChips withChip withEnable withIack withResponse withEvent zeroChain
 chainFields = tt
 
+-- a chain with a change applied, as a record
+unfoldable pub applying : Unit {0}
+unfolding chainFields replacedIn setIn applied
+applying = tt
+
 unfoldable pub rules : Unit {0}
-unfolding chipRules decisions chainFields replacedIn applied decision changed counted accepted refused judged eventOf ei answeringChip seenAt selected verdictOf chipsSound sound started startOf
+unfolding chipRules decisions applying decision changed counted accepted refused judged eventOf ei answeringChip seenAt selected verdictOf chipsSound sound started startOf
 rules = tt

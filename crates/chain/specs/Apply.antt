@@ -13,8 +13,12 @@ use Rattle.chain.specs.declared.Chain.{Chain}
 unfoldable pub replacedIn : Change → Chain → Chain
 replacedIn c s = cond (c .replaces) (withChip (c .at) (c .chip) s) s
 
+-- the chain's own fields, if they are set
+unfoldable pub setIn : Change → Chain → Chain
+setIn c s = cond (c .sets) (withIack (c .iack) (withEnable (c .enable) (withResponse (c .response) s))) s
+
 unfoldable pub applied : Change → Chain → Chain
-applied c s = withIack (c .iack) (withEnable (c .enable) (withResponse (c .response) (replacedIn c s)))
+applied c s = setIn c (replacedIn c s)
 
 -- what an event does in a chain
 unfoldable pub decision : Event → Chain → Change

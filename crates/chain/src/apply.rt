@@ -1,6 +1,6 @@
 // What an event looks at in a chain, and a chain with what is decided applied to it: one element of the array is replaced, if one is.
 ghost use mathlib.Core.Path.{_≡_};
-ghost use Rattle.chain.specs.Apply.{replacedIn, applied};
+ghost use Rattle.chain.specs.Apply.{replacedIn, setIn, applied};
 ghost use Rattle.chain.specs.Seen.{seenAt, seenIn};
 use crate::Chain;
 use decide::Change;
@@ -48,14 +48,24 @@ impl Chain {
         self.with_chip(change.at, chip)
     }
 
+    // The chain's own fields, if they are set.
+    fn set(self, change: Change) -> Chain
+        ensures { λ r. ⌜ r ≡ setIn change self ⌝ }
+    {
+        if !change.sets {
+            return self;
+        }
+        let response = change.response;
+        let mut next = self.with_response(response);
+        next.enable = change.enable;
+        next.iack = change.iack;
+        next
+    }
+
     // What is decided.
     pub(crate) fn applied(self, change: Change) -> Chain
         ensures { λ r. ⌜ r ≡ applied change self ⌝ }
     {
-        let response = change.response;
-        let mut next = self.replaced(change).with_response(response);
-        next.enable = change.enable;
-        next.iack = change.iack;
-        next
+        self.replaced(change).set(change)
     }
 }

@@ -7,10 +7,11 @@ use Rattle.refusal.specs.Answers.{verdictIn}
 use Rattle.refusal.specs.declared.Verdict.the-variants.{Accepted}
 use Rattle.event.specs.declared.Event.{Event}
 use Rattle.event.specs.declared.Event.the-variants.{Command, Data, Status, Read, Line, Enable, Fall, Rise}
+use Rattle.response.specs.Held.{endsResponse}
 use Rattle.response.specs.declared.Reply.{Reply}
 use Rattle.response.specs.declared.Response.{Response}
 use Rattle.response.specs.declared.Response.the-variants.{Idle, UnderWay}
-use Rattle.decide.specs.Decided.{decided}
+use Rattle.decide.specs.Decided.{ending, decided}
 use Rattle.decide.specs.Pulse.{selectedBy, driving, firstPulse, fallen, risenAfter, risen}
 use Rattle.decide.specs.declared.Change.{Change}
 use Rattle.decide.specs.declared.Seen.{Seen}
@@ -40,9 +41,14 @@ unfolding changes risen
 risen-tells Idle v = refl
 risen-tells (UnderWay r) v = after-tells (eqb (r .delivered) (r .length)) r v
 
+ending-tells : (ends : Bool) (v : Seen) (c : Change) → Tells c → Tells (ending ends v c)
+unfolding changes
+ending-tells true v c h = h
+ending-tells false v c h = h
+
 pub decided-tells : (e : Event) (v : Seen) → verdictIn (decided e v .answer) ≡ Accepted
 unfolding changes decided
-decided-tells (Command i code) v = refl
+decided-tells (Command i code) v = ending-tells (endsResponse (v .at) code (v .response)) v _ refl
 decided-tells (Data i byte) v = refl
 decided-tells (Status i) v = refl
 decided-tells (Read i) v = refl

@@ -7,7 +7,7 @@ use Rattle.response.specs.Held.{replyOf, oneMore}
 use Rattle.response.specs.declared.Reply.{Reply}
 use Rattle.response.specs.declared.Response.{Response}
 use Rattle.response.specs.declared.Response.the-variants.{Idle, UnderWay}
-use Rattle.decide.specs.Change.{unchanged, answering, replacing, responding}
+use Rattle.decide.specs.Change.{nothing, answering, replacing, setting}
 use Rattle.decide.specs.declared.Change.{Change}
 use Rattle.decide.specs.declared.Seen.{Seen}
 
@@ -15,15 +15,15 @@ use Rattle.decide.specs.declared.Seen.{Seen}
 unfoldable pub selectedBy : Seen → Response
 selectedBy v = cond (ltb (v .at) (v .count)) (UnderWay (replyOf (v .at) (v .chip))) Idle
 
--- the responding chip drives the next byte, read from its memory now
+-- IACK is low, and the responding chip drives the next byte, read from its memory now
 unfoldable pub driving : Reply → Seen → Change
 driving r v =
-    responding (UnderWay (oneMore r)) (answering (Byte (responseByte (v .chip) (r .level) (r .delivered))) (unchanged v))
+    answering (Byte (responseByte (v .chip) (r .level) (r .delivered))) (setting (v .enable) false (UnderWay (oneMore r)) nothing)
 
 -- a first pulse: the selected chip answers its channel and drives the first byte, or the pulse stalls: accepted, no byte
 unfoldable pub firstPulse : Response → Seen → Change
-firstPulse Idle v = unchanged v
-firstPulse (UnderWay r) v = replacing (answered (r .channel) (v .chip)) (driving r v)
+firstPulse Idle v = setting (v .enable) false Idle nothing
+firstPulse (UnderWay r) v = replacing (v .at) (answered (r .channel) (v .chip)) (driving r v)
 
 -- IACK falls: with a response under way its chip drives the next byte; otherwise it is a first pulse
 unfoldable pub fallen : Response → Seen → Change
@@ -32,10 +32,10 @@ fallen (UnderWay r) v = driving r v
 
 -- after the last byte the response ends, and the ISR bit of its channel clears if its ACR bit is then set
 unfoldable pub risenAfter : Bool → Reply → Seen → Change
-risenAfter true r v = responding Idle (replacing (finished (r .channel) (v .chip)) (unchanged v))
-risenAfter false r v = unchanged v
+risenAfter true r v = replacing (v .at) (finished (r .channel) (v .chip)) (setting (v .enable) true Idle nothing)
+risenAfter false r v = setting (v .enable) true (UnderWay r) nothing
 
 -- IACK rises: after a stall nothing more changes
 unfoldable pub risen : Response → Seen → Change
-risen Idle v = unchanged v
+risen Idle v = setting (v .enable) true Idle nothing
 risen (UnderWay r) v = risenAfter (eqb (r .delivered) (r .length)) r v

@@ -4,7 +4,7 @@ ghost use mathlib.Core.Path.{_≡_};
 ghost use Rattle.chip.specs.Sound.{chipSound};
 ghost use Rattle.refusal.specs.declared.Verdict.the-variants.{Accepted};
 ghost use Rattle.event.specs.declared.Event.the-variants.{Command, Data, Status, Read, Line, Enable};
-ghost use Rattle.decide.specs.Change.{unchanged, answering, replacing, enabling, pulling, responding};
+ghost use Rattle.decide.specs.Change.{nothing, answering, replacing, setting};
 ghost use Rattle.decide.specs.Decided.{decided};
 ghost use Rattle.decide.specs.Refusals.{verdictOn};
 ghost use Rattle.decide.specs.Sound.{seenSound};
@@ -16,6 +16,23 @@ use refusal::Answer;
 use response::Response;
 
 impl Change {
+    // Nothing changes, and no byte is driven or read.
+    pub(crate) fn nothing() -> Change
+        ensures { λ r. ⌜ r ≡ nothing ⌝ }
+    {
+        let chip = Chip::zero();
+        Change {
+            answer: Answer::Done,
+            replaces: false,
+            at: 0,
+            chip: chip,
+            sets: false,
+            enable: false,
+            iack: false,
+            response: Response::Idle,
+        }
+    }
+
     // Another answer. (A field that is an enum cannot be stored to, so the record is written anew.)
     pub(crate) fn answering(self, answer: Answer) -> Change
         ensures { λ r. ⌜ r ≡ answering answer self ⌝ }
@@ -27,40 +44,26 @@ impl Change {
             replaces: self.replaces,
             at: self.at,
             chip: chip,
+            sets: self.sets,
             enable: self.enable,
             iack: self.iack,
             response: response,
         }
     }
 
-    // The chip replaced.
-    pub(crate) fn replacing(mut self, chip: Chip) -> Change
-        ensures { λ r. ⌜ r ≡ replacing chip self ⌝ }
+    // Chip i is replaced.
+    pub(crate) fn replacing(mut self, i: u8, chip: Chip) -> Change
+        ensures { λ r. ⌜ r ≡ replacing i chip self ⌝ }
     {
         self.replaces = true;
+        self.at = i;
         self.chip = chip;
         self
     }
 
-    // The chain's Enable In at a level.
-    fn enabling(mut self, high: bool) -> Change
-        ensures { λ r. ⌜ r ≡ enabling high self ⌝ }
-    {
-        self.enable = high;
-        self
-    }
-
-    // IACK at a level.
-    pub(crate) fn pulling(mut self, high: bool) -> Change
-        ensures { λ r. ⌜ r ≡ pulling high self ⌝ }
-    {
-        self.iack = high;
-        self
-    }
-
-    // Another response.
-    pub(crate) fn responding(self, response: Response) -> Change
-        ensures { λ r. ⌜ r ≡ responding response self ⌝ }
+    // The chain's own fields are set.
+    pub(crate) fn setting(self, enable: bool, iack: bool, response: Response) -> Change
+        ensures { λ r. ⌜ r ≡ setting enable iack response self ⌝ }
     {
         let chip = self.chip;
         let answer = self.answer;
@@ -69,40 +72,27 @@ impl Change {
             replaces: self.replaces,
             at: self.at,
             chip: chip,
-            enable: self.enable,
-            iack: self.iack,
+            sets: true,
+            enable: enable,
+            iack: iack,
             response: response,
         }
     }
 }
 
 impl Seen {
-    // Nothing changes, and no byte is driven or read.
-    pub(crate) fn unchanged(self) -> Change
-        ensures { λ r. ⌜ r ≡ unchanged self ⌝ }
-    {
-        let chip = self.chip;
-        let response = self.response;
-        Change {
-            answer: Answer::Done,
-            replaces: false,
-            at: self.at,
-            chip: chip,
-            enable: self.enable,
-            iack: self.iack,
-            response: response,
-        }
-    }
-
     // A command write. A reset of the responding chip ends its response.
     fn command(self, i: u8, code: u8) -> Change
         ensures { λ r. ⌜ r ≡ decided (Command i code) self ⌝ }
     {
         let chip = self.chip;
         let response = self.response;
-        self.unchanged()
-            .replacing(chip.commanded(code))
-            .responding(response.after_command(self.at, code))
+        let change = Change::nothing().replacing(self.at, chip.commanded(code));
+        if response.ends_by(self.at, code) {
+            change.setting(self.enable, self.iack, Response::Idle)
+        } else {
+            change
+        }
     }
 
     // A data write.
@@ -111,7 +101,7 @@ impl Seen {
         ensures { λ r. ⌜ r ≡ decided (Data i byte) self ⌝ }
     {
         let chip = self.chip;
-        self.unchanged().replacing(chip.data(byte))
+        Change::nothing().replacing(self.at, chip.data(byte))
     }
 
     // A status read.
@@ -120,7 +110,7 @@ impl Seen {
     {
         let chip = self.chip;
         let status = chip.status(self.ei);
-        self.unchanged().answering(Answer::Byte(status))
+        Change::nothing().answering(Answer::Byte(status))
     }
 
     // A data read.
@@ -129,7 +119,7 @@ impl Seen {
     {
         let chip = self.chip;
         let register = chip.read();
-        self.unchanged().answering(Answer::Byte(register))
+        Change::nothing().answering(Answer::Byte(register))
     }
 
     // A line takes a level.
@@ -137,14 +127,15 @@ impl Seen {
         ensures { λ r. ⌜ r ≡ decided (Line i channel level) self ⌝ }
     {
         let chip = self.chip;
-        self.unchanged().replacing(chip.line(channel, level == 1))
+        Change::nothing().replacing(self.at, chip.line(channel, level == 1))
     }
 
     // The chain's Enable In takes a level.
     fn enable(self, level: u8) -> Change
         ensures { λ r. ⌜ r ≡ decided (Enable level) self ⌝ }
     {
-        self.unchanged().enabling(level == 1)
+        let response = self.response;
+        Change::nothing().setting(level == 1, self.iack, response)
     }
 
     // What an accepted event does.

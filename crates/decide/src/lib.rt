@@ -33,12 +33,13 @@ pub struct Seen {
     pub ei: bool,
 }
 
-// What an accepted event does: its answer, the chip that it replaces, if it replaces one, and by what, and the chain's own fields.
+// What an accepted event does: its answer; the chip that it replaces, if it replaces one, and by what; and the chain's own fields, if it sets them.
 pub struct Change {
     pub answer: Answer,
     pub replaces: bool,
     pub at: u8,
     pub chip: Chip,
+    pub sets: bool,
     pub enable: bool,
     pub iack: bool,
     pub response: Response,

@@ -6,7 +6,7 @@ ghost use lib.Dec.{eqb};
 ghost use Rattle.event.specs.declared.Event.the-variants.{Fall, Rise};
 ghost use Rattle.response.specs.declared.Response.the-variants.{UnderWay};
 ghost use Rattle.decide.specs.Decided.{decided};
-ghost use Rattle.decide.specs.Pulse.{selectedBy, driving, firstPulse, fallen, risen, risenAfter};
+ghost use Rattle.decide.specs.Pulse.{selectedBy, driving, firstPulse, risenAfter};
 ghost use Rattle.decide.specs.Sound.{seenSound};
 use crate::Change;
 use crate::Seen;
@@ -27,16 +27,16 @@ impl Seen {
         Response::UnderWay(Reply::of(self.at, chip))
     }
 
-    // The responding chip drives the next byte, read from its memory now.
+    // IACK is low, and the responding chip drives the next byte, read from its memory now.
     fn driving(self, reply: Reply) -> Change
         requires { ⌜ reply .delivered < 4 ⌝ }
         ensures { λ r. ⌜ r ≡ driving reply self ⌝ }
     {
         let chip = self.chip;
         let byte = chip.response_byte(reply.level, reply.delivered);
-        self.unchanged()
+        Change::nothing()
+            .setting(self.enable, false, Response::UnderWay(reply.one_more()))
             .answering(Answer::Byte(byte))
-            .responding(Response::UnderWay(reply.one_more()))
     }
 
     // The selected chip answers its channel and drives the first byte.
@@ -45,7 +45,7 @@ impl Seen {
         ensures { λ r. ⌜ r ≡ firstPulse (UnderWay reply) self ⌝ }
     {
         let chip = self.chip;
-        self.driving(reply).replacing(chip.fall(reply.channel))
+        self.driving(reply).replacing(self.at, chip.fall(reply.channel))
     }
 
     // A first pulse: the selected chip answers, or the pulse stalls: accepted, no byte.
@@ -55,16 +55,16 @@ impl Seen {
     {
         let selected = self.selected();
         match selected {
-            Response::Idle => self.unchanged(),
+            Response::Idle => Change::nothing().setting(self.enable, false, Response::Idle),
             Response::UnderWay(reply) => self.answer(reply),
         }
     }
 
-    // With a response under way its chip drives the next byte; otherwise it is a first pulse.
-    fn fallen(self) -> Change
+    // IACK falls: with a response under way its chip drives the next byte; otherwise it is a first pulse.
+    pub(crate) fn fall(self) -> Change
         requires { ⌜ seenSound self ≡ true ⌝ }
         requires { ⌜ self .iack ≡ true ⌝ }
-        ensures { λ r. ⌜ r ≡ fallen (self .response) self ⌝ }
+        ensures { λ r. ⌜ r ≡ decided Fall self ⌝ }
     {
         let response = self.response;
         match response {
@@ -73,43 +73,27 @@ impl Seen {
         }
     }
 
-    // IACK falls.
-    pub(crate) fn fall(self) -> Change
-        requires { ⌜ seenSound self ≡ true ⌝ }
-        requires { ⌜ self .iack ≡ true ⌝ }
-        ensures { λ r. ⌜ r ≡ decided Fall self ⌝ }
-    {
-        self.fallen().pulling(false)
-    }
-
     // After the last byte the response ends, and the ISR bit of its channel clears if its ACR bit is then set.
     fn risen_after(self, reply: Reply) -> Change
         ensures { λ r. ⌜ r ≡ risenAfter (eqb (reply .delivered) (reply .length)) reply self ⌝ }
     {
         if reply.delivered != reply.length {
-            return self.unchanged();
+            return Change::nothing().setting(self.enable, true, Response::UnderWay(reply));
         }
         let chip = self.chip;
-        self.unchanged()
-            .replacing(chip.rise(reply.channel))
-            .responding(Response::Idle)
+        Change::nothing()
+            .setting(self.enable, true, Response::Idle)
+            .replacing(self.at, chip.rise(reply.channel))
     }
 
-    // After a stall nothing more changes.
-    fn risen(self) -> Change
-        ensures { λ r. ⌜ r ≡ risen (self .response) self ⌝ }
-    {
-        let response = self.response;
-        match response {
-            Response::Idle => self.unchanged(),
-            Response::UnderWay(reply) => self.risen_after(reply),
-        }
-    }
-
-    // IACK rises.
+    // IACK rises: after a stall nothing more changes.
     pub(crate) fn rise(self) -> Change
         ensures { λ r. ⌜ r ≡ decided Rise self ⌝ }
     {
-        self.risen().pulling(true)
+        let response = self.response;
+        match response {
+            Response::Idle => Change::nothing().setting(self.enable, true, Response::Idle),
+            Response::UnderWay(reply) => self.risen_after(reply),
+        }
     }
 }

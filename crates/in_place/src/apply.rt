@@ -1,7 +1,7 @@
 // What an event looks at in an image, and an image with what is decided applied where it lies.
 ghost use mathlib.Core.Bool.{true};
 ghost use mathlib.Core.Path.{_≡_};
-ghost use Rattle.chain.specs.Apply.{replacedIn, applied};
+ghost use Rattle.chain.specs.Apply.{replacedIn, setIn, applied};
 ghost use Rattle.chain.specs.Seen.{seenAt, seenIn};
 ghost use Rattle.chain.specs.Walk.{walkedTo};
 ghost use Rattle.image.specs.Reading.{chainIn, isImage};
@@ -74,6 +74,21 @@ fn replace(image: &mut [u8], change: Change)
     set_chip(image, change.at, chip);
 }
 
+// The chain's own fields, if they are set.
+fn set(image: &mut [u8], change: Change)
+    requires { ⌜ isImage (now image) ≡ true ⌝ }
+    ensures { λ _. ⌜ isImage (now (image .exit)) ≡ true ⌝ }
+    ensures { λ _. ⌜ chainIn (now (image .exit)) ≡ setIn change (chainIn (now (image .entry))) ⌝ }
+{
+    if !change.sets {
+        return;
+    }
+    let response = change.response;
+    set_response(image, response);
+    set_enable(image, change.enable);
+    set_iack(image, change.iack);
+}
+
 // What is decided.
 pub(crate) fn apply(image: &mut [u8], change: Change)
     requires { ⌜ isImage (now image) ≡ true ⌝ }
@@ -81,8 +96,5 @@ pub(crate) fn apply(image: &mut [u8], change: Change)
     ensures { λ _. ⌜ chainIn (now (image .exit)) ≡ applied change (chainIn (now (image .entry))) ⌝ }
 {
     replace(image, change);
-    let response = change.response;
-    set_response(image, response);
-    set_enable(image, change.enable);
-    set_iack(image, change.iack);
+    set(image, change);
 }

@@ -1,7 +1,7 @@
 -- What the record of a sound response says of each of its parts, and how a response stays sound.
 -- Assumes nothing.
 use mathlib.Core.Bool.{Bool, true, false, cond, _&&_}
-use mathlib.Core.Path.{_≡_, refl}
+use mathlib.Core.Path.{_≡_}
 use Prim.Native.Nat.{ℕ, _+_, _≤_, _<_}
 use native.Mathlib.Omega.{arith}
 use lib.Dec.{eqb, leb, ltb}
@@ -70,11 +70,6 @@ reply-of-sound count i c e h =
       at-least-one = omega arith;
       at-most-four = omega arith;
     }
-
--- a reset ends a response, or leaves it
-pub ended : (reset : Bool) (count : ℕ) (iack : Bool) (r : Response) → responseSound count iack r ≡ true → responseSound count iack (cond reset Idle r) ≡ true
-ended true count iack r e = refl
-ended false count iack r e = e
 
 -- a response with one byte more, IACK low
 pub one-more : (count : ℕ) (r : Reply) → SoundReply count r → r .delivered < r .length → responseSound count false (UnderWay (oneMore r)) ≡ true

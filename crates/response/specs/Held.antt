@@ -1,5 +1,5 @@
 -- What is held of a response (document 01, "A chip" and events 1, 7 and 8).
-use mathlib.Core.Bool.{Bool, true, false, cond, _&&_}
+use mathlib.Core.Bool.{Bool, true, false, _&&_}
 use Prim.Native.Nat.{ℕ, _+_}
 use lib.Dec.{eqb}
 use Rattle.search.specs.Candidate.{channelOf}
@@ -35,5 +35,5 @@ isResponding Idle i = false
 isResponding (UnderWay r) i = eqb (r .chip) i
 
 -- a reset of chip i ends a response of that chip (D)
-abbrev pub afterCommand : ℕ → ℕ → Response → Response
-afterCommand i code response = cond (isReset code && isResponding response i) Idle response
+abbrev pub endsResponse : ℕ → ℕ → Response → Bool
+endsResponse i code response = isReset code && isResponding response i

@@ -1,9 +1,9 @@
-// What is held of a response: its beginning, one byte more, and its end by a reset.
+// What is held of a response: its beginning, one byte more, and what ends it.
 ghost use mathlib.Core.Bool.{true};
 ghost use mathlib.Core.Path.{_≡_};
 ghost use Prim.Native.Nat.{_<_};
 ghost use Rattle.chip.specs.Sound.{chipSound};
-ghost use Rattle.response.specs.Held.{replyOf, oneMore, isIdle, isResponding, afterCommand};
+ghost use Rattle.response.specs.Held.{replyOf, oneMore, isIdle, isResponding, endsResponse};
 use crate::Reply;
 use crate::Response;
 use chip::Chip;
@@ -59,14 +59,10 @@ impl Response {
         }
     }
 
-    // The response after a command to chip i: a reset of the responding chip ends it.
-    pub fn after_command(self, i: u8, code: u8) -> Response
-        ensures { λ r. ⌜ r ≡ afterCommand i code self ⌝ }
+    // Whether a command to chip i ends the response: a reset of the responding chip does.
+    pub fn ends_by(self, i: u8, code: u8) -> bool
+        ensures { λ r. ⌜ r ≡ endsResponse i code self ⌝ }
     {
-        if Meaning::is_reset(code) & self.is_of(i) {
-            Response::Idle
-        } else {
-            self
-        }
+        Meaning::is_reset(code) & self.is_of(i)
     }
 }

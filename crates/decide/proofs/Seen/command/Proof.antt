@@ -5,8 +5,8 @@ use Rattle.decide.specs.Decided.{decided}
 use Rattle.decide.proofs.Seen.command.Statement.{statement}
 use Rattle.decide.proofs.Seen.command.Tie as tie
 
-unchanged-requires : tie.Need-unchanged-requires
-unchanged-requires c κs = search needs
+nothing-requires : tie.Need-nothing-requires
+nothing-requires c κs = search needs
 
 commanded-requires : tie.Need-commanded-requires
 commanded-requires c κs = search needs
@@ -14,23 +14,28 @@ commanded-requires c κs = search needs
 replacing-requires : tie.Need-replacing-requires
 replacing-requires c κs = search needs
 
-after-command-requires : tie.Need-after-command-requires
-after-command-requires c κs = search needs
+ends-by-requires : tie.Need-ends-by-requires
+ends-by-requires c κs = search needs
 
-responding-requires : tie.Need-responding-requires
-responding-requires c κs = search needs
+setting-requires : tie.Need-setting-requires
+setting-requires c κs = search needs
 
 returns : tie.Need-returns
 unfolding decided
-returns c = simp (c .responding .ensures, c .before .after-command .ensures, c .before .before .replacing .ensures, c .before .before .before .commanded .ensures, c .before .before .before .before .unchanged .ensures)
+returns c = simp (c .setting .ensures, c .before .before .before .replacing .ensures, c .before .before .before .before .commanded .ensures, c .before .before .before .before .before .nothing .ensures, ← c .before .before .ends-by .ensures, c .before .if1 .taken)
+
+returns-2 : tie.Need-returns-2
+unfolding decided
+returns-2 c = simp (c .before .before .replacing .ensures, c .before .before .before .commanded .ensures, c .before .before .before .before .nothing .ensures, ← c .before .ends-by .ensures, c .if1 .left)
 
 pub command-spec : {M : Type 1} → statement M
 command-spec =
     tie.close
     (tie.spec
-    unchanged-requires
+    nothing-requires
     commanded-requires
     replacing-requires
-    after-command-requires
-    responding-requires
-    returns)
+    ends-by-requires
+    setting-requires
+    returns
+    returns-2)

@@ -5,8 +5,8 @@ use Rattle.decide.specs.Decided.{decided}
 use Rattle.decide.proofs.Seen.data_write.Statement.{statement}
 use Rattle.decide.proofs.Seen.data_write.Tie as tie
 
-unchanged-requires : tie.Need-unchanged-requires
-unchanged-requires c κs = search needs
+nothing-requires : tie.Need-nothing-requires
+nothing-requires c κs = search needs
 
 data-requires : tie.Need-data-requires
 data-requires c κs = search needs
@@ -16,7 +16,7 @@ replacing-requires c κs = search needs
 
 returns : tie.Need-returns
 unfolding decided
-returns c = simp (c .replacing .ensures, c .before .«data» .ensures, c .before .before .unchanged .ensures)
+returns c = simp (c .replacing .ensures, c .before .«data» .ensures, c .before .before .nothing .ensures)
 
 pub data-write-spec : {M : Type 1} → statement M
-data-write-spec = tie.close (tie.spec unchanged-requires data-requires replacing-requires returns)
+data-write-spec = tie.close (tie.spec nothing-requires data-requires replacing-requires returns)

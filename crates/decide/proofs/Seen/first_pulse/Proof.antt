@@ -14,8 +14,11 @@ selected-requires c κs = search needs
 enum-told : tie.Need-enum-told
 enum-told c = search needs
 
-unchanged-requires : tie.Need-unchanged-requires
-unchanged-requires c κs = search needs
+nothing-requires : tie.Need-nothing-requires
+nothing-requires c κs = search needs
+
+setting-requires : tie.Need-setting-requires
+setting-requires c κs = search needs
 
 enum-known-selected : tie.Need-enum-known-selected
 enum-known-selected c = search needs
@@ -25,7 +28,7 @@ answer-requires c κs = let found = selected-sound (c .before .before .before .b
 
 returns : tie.Need-returns
 unfolding firstPulse
-returns c = simp (c .unchanged .ensures, ← c .before .before .before .selected .ensures, c .before .enum-told .given .1)
+returns c = simp (c .setting .ensures, c .before .nothing .ensures, ← c .before .before .before .before .selected .ensures, c .before .before .enum-told .given .1)
 
 returns-2 : tie.Need-returns-2
 returns-2 c = simp (c .answer .ensures, ← c .before .before .before .before .selected .ensures, c .before .before .selected2 .given .1)
@@ -36,7 +39,8 @@ first-pulse-spec =
     (tie.spec
     selected-requires
     enum-told
-    unchanged-requires
+    nothing-requires
+    setting-requires
     enum-known-selected
     answer-requires
     returns

@@ -6,15 +6,21 @@ use Rattle.decide.specs.Pulse.{risenAfter}
 use Rattle.decide.proofs.Seen.risen_after.Statement.{statement}
 use Rattle.decide.proofs.Seen.risen_after.Tie as tie
 
-unchanged-requires : tie.Need-unchanged-requires
-unchanged-requires c κs = search needs
+nothing-requires : tie.Need-nothing-requires
+nothing-requires c κs = search needs
+
+setting-requires : tie.Need-setting-requires
+setting-requires c κs = search needs
 
 returns : tie.Need-returns
 unfolding risenAfter
-returns c = simp (c .unchanged .ensures, ne-eqb _ _ (c .before .if1 .taken))
+returns c = simp (c .setting .ensures, c .before .nothing .ensures, ne-eqb _ _ (c .before .before .if1 .taken))
 
-unchanged-requires-2 : tie.Need-unchanged-requires-2
-unchanged-requires-2 c κs = search needs
+nothing-requires-2 : tie.Need-nothing-requires-2
+nothing-requires-2 c κs = search needs
+
+setting-requires-2 : tie.Need-setting-requires-2
+setting-requires-2 c κs = search needs
 
 rise-requires : tie.Need-rise-requires
 rise-requires c κs = search needs
@@ -22,21 +28,19 @@ rise-requires c κs = search needs
 replacing-requires : tie.Need-replacing-requires
 replacing-requires c κs = search needs
 
-responding-requires : tie.Need-responding-requires
-responding-requires c κs = search needs
-
 returns-2 : tie.Need-returns-2
 unfolding risenAfter
-returns-2 c = simp (c .responding .ensures, c .before .replacing .ensures, c .before .before .rise .ensures, c .before .before .before .unchanged2 .ensures, eq-eqb _ _ (c .before .before .before .before .before .if1 .left))
+returns-2 c = simp (c .replacing .ensures, c .before .before .setting2 .ensures, c .before .rise .ensures, c .before .before .before .nothing2 .ensures, eq-eqb _ _ (c .before .before .before .before .before .if1 .left))
 
 pub risen-after-spec : {M : Type 1} → statement M
 risen-after-spec =
     tie.close
     (tie.spec
-    unchanged-requires
+    nothing-requires
+    setting-requires
     returns
-    unchanged-requires-2
+    nothing-requires-2
+    setting-requires-2
     rise-requires
     replacing-requires
-    responding-requires
     returns-2)
