@@ -2,6 +2,7 @@
 -- A call is the model's call between reading the image and writing it. A refused call leaves every buffer as it was.
 use mathlib.Core.Bool.{Bool, not, cond}
 use mathlib.Core.List.{List, [], _∷_}
+use mathlib.Core.Path.{_≡_}
 use Prim.Native.Nat.{ℕ, _/_, _%_}
 use lib.Dec.{eqb, ltb}
 use lib.ListN.{length}
@@ -100,3 +101,8 @@ runCall image events limit results accepted =
     cond (isAccepted (runCheck image events results))
     (record { number = verdictNumber (r .ran .verdict); image = imageOf (r .ran .chain); results = r .results; accepted = r .ran .accepted })
     (record { number = verdictNumber (runCheck image events results); image = image; results = results; accepted = accepted })
+
+-- a run hands back and leaves what a call says
+abbrev pub Leaves : RunCalled → ℕ → List ℕ → List ℕ → ℕ → Type 0
+Leaves c number image results accepted =
+    (number ≡ c .number) × ((image ≡ c .image) × ((results ≡ c .results) × (accepted ≡ c .accepted)))

@@ -4,7 +4,7 @@ mod shown;
 
 ghost use mathlib.Core.Path.{_≡_};
 ghost use Rattle.search.specs.Candidate.{searchNumber};
-ghost use Rattle.am9519a.specs.Calls.{startCall, runCall, registersCall, pinsCall};
+ghost use Rattle.am9519a.specs.Calls.{startCall, runCall, Leaves, registersCall, pinsCall};
 use crate::shown::chain_of;
 use crate::shown::picture_bytes;
 use crate::shown::put_view;
@@ -55,10 +55,8 @@ pub extern "C" fn am9519a_run(
     results: &mut [u8],
     accepted: &mut usize,
 ) -> u8
-    ensures { λ r. ⌜ r ≡ runCall (now (image .entry)) (now (events .entry)) limit (now (results .entry)) (now (accepted .entry)) .number ⌝ }
-    ensures { λ _. ⌜ now (image .exit) ≡ runCall (now (image .entry)) (now (events .entry)) limit (now (results .entry)) (now (accepted .entry)) .image ⌝ }
-    ensures { λ _. ⌜ now (results .exit) ≡ runCall (now (image .entry)) (now (events .entry)) limit (now (results .entry)) (now (accepted .entry)) .results ⌝ }
-    ensures { λ _. ⌜ now (accepted .exit) ≡ runCall (now (image .entry)) (now (events .entry)) limit (now (results .entry)) (now (accepted .entry)) .accepted ⌝ }
+    ensures { λ r. ⌜ Leaves (runCall (now (image .entry)) (now (events .entry)) limit (now (results .entry)) (now (accepted .entry)))
+        r (now (image .exit)) (now (results .exit)) (now (accepted .exit)) ⌝ }
 {
     if !image::is_image(image) {
         return 1;
