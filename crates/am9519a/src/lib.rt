@@ -55,7 +55,8 @@ pub extern "C" fn am9519a_run(
     results: &mut [u8],
     accepted: &mut usize,
 ) -> u8
-    ensures { λ r. ⌜ runLeft r (now (image .exit)) (now (results .exit)) (now (accepted .exit)) ≡ runCall (now (image .entry)) (now (events .entry)) limit (now (results .entry)) (now (accepted .entry)) ⌝ }
+    ensures { λ r. ⌜ runLeft r (now (image .exit)) (now (results .exit)) (now (accepted .exit))
+        ≡ runCall (now (image .entry)) (now (events .entry)) limit (now (results .entry)) (now (accepted .entry)) ⌝ }
 {
     if !image::is_image(image) {
         return 1;

@@ -12,7 +12,7 @@ use Rattle.refusal.specs.declared.Verdict.the-variants.{Accepted, Refused}
 use Rattle.chain.specs.declared.Chain.{Chain}
 use Rattle.messages.proofs.Bounds.{refused-le, malformed-le}
 use Rattle.page.proofs.Bounds.{page-le}
-use Rattle.report.specs.Report.{Reply, byVerdict, stepReply, replyTo, reply, lacking, closed, lastReply}
+use Rattle.report.specs.Report.{Reply, byVerdict, stepReply, lineReply, reply, lacking, closed, lastReply}
 use Rattle.report.specs.declared.Report.{Report}
 use Rattle.steps.specs.Lines.{stepOf}
 use Rattle.steps.specs.declared.Expected.the-variants.{TheStart}
@@ -27,8 +27,8 @@ step-le : (kind : ℕ) (answer : Answer) (s : Chain) (r : Report) → length (st
 unfolding stepReply
 step-le kind answer s r = by-le (verdictIn answer) kind answer s r
 
-replied-le : (step : Step) (r : Report) → length (replyTo step r .print) ≤ 8576
-unfolding replyTo
+replied-le : (step : Step) (r : Report) → length (lineReply step r .print) ≤ 8576
+unfolding lineReply
 replied-le Nothing r = omega arith
 replied-le (Start count fill) r = step-le 0 _ _ r
 replied-le (Happens kind e) r = step-le _ _ _ r

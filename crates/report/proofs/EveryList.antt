@@ -9,7 +9,7 @@ use borrow.Author.Tests.{lt-ltb}
 use lib.Dec.{eqb}
 use lib.ListN.{length, getD, take, drop}
 use lib.Seq.{length-take-le}
-use Rattle.report.specs.Report.{before, linesOf, printed, reply, replyTo, lastReply}
+use Rattle.report.specs.Report.{before, linesOf, printed, reply, lineReply, lastReply}
 use Rattle.report.specs.EveryList.{OnThePage, EveryList}
 use Rattle.report.specs.declared.Report.{Report}
 use Rattle.report.proofs.Bounds.{reply-le, last-le}
@@ -84,7 +84,7 @@ shorter started line h = simp (lt-ltb 1024 (length line) h)
 too-long : (line : List ℕ) (n : ℕ) (r : Report) → 1024 < n → n ≤ length line → reply (take n line) r ≡ reply line r
 unfolding reply
 too-long line n r long has =
-    ap (λ step. replyTo step r)
+    ap (λ step. lineReply step r)
     (shorter (r .started) (take n line) (omega (arith, length-take-le n line has, long)) ∙ sym (shorter (r .started) line (omega (arith, long, has))))
 
 pub every-list : EveryList

@@ -27,8 +27,8 @@ unfoldable pub atFirst : Report
 atFirst = record { line = 1; started = false; chain = zeroChain }
 
 -- after a line; its number is counted in sixty-four bits
-abbrev pub after : Bool → Chain → Report → Report
-after started chain r = record { line = (r .line + 1) % 2 ^ 64; started = started; chain = chain }
+abbrev pub nextReport : Bool → Chain → Report → Report
+nextReport started chain r = record { line = (r .line + 1) % 2 ^ 64; started = started; chain = chain }
 
 -- What a line does: what it prints, the report after it, and whether the report ends there.
 pub record Reply : Type 0 where
@@ -44,7 +44,7 @@ Tells said page taken after =
 
 -- it goes on with a chain
 abbrev pub goesOn : List ℕ → Bool → Chain → Report → Reply
-goesOn print started chain r = record { print = print; report = after started chain r; ended = false }
+goesOn print started chain r = record { print = print; report = nextReport started chain r; ended = false }
 
 -- or ends there
 abbrev pub ends : List ℕ → Report → Reply
@@ -58,15 +58,15 @@ byVerdict (Refused why) kind answer s r = ends (refusedLine (r .line) kind why) 
 unfoldable pub stepReply : ℕ → Answer → Chain → Report → Reply
 stepReply kind answer s r = byVerdict (verdictIn answer) kind answer s r
 
-unfoldable pub replyTo : Step → Report → Reply
-replyTo Nothing r = goesOn [] (r .started) (r .chain) r
-replyTo (Start count fill) r = stepReply 0 (startOf count fill .answer) (startOf count fill .chain) r
-replyTo (Happens kind e) r = stepReply kind (eventOf e (r .chain) .answer) (eventOf e (r .chain) .chain) r
-replyTo (Malformed expected) r = ends (malformedLine (r .line) expected) r
+unfoldable pub lineReply : Step → Report → Reply
+lineReply Nothing r = goesOn [] (r .started) (r .chain) r
+lineReply (Start count fill) r = stepReply 0 (startOf count fill .answer) (startOf count fill .chain) r
+lineReply (Happens kind e) r = stepReply kind (eventOf e (r .chain) .answer) (eventOf e (r .chain) .chain) r
+lineReply (Malformed expected) r = ends (malformedLine (r .line) expected) r
 
 -- what a line does, without its line feed
 unfoldable pub reply : List ℕ → Report → Reply
-reply line r = replyTo (stepOf (r .started) line) r
+reply line r = lineReply (stepOf (r .started) line) r
 
 -- the last line of a list, after which it is over; a list that has not started by then lacks its start
 abbrev pub lacking : Bool → ℕ → List ℕ

@@ -2,7 +2,7 @@
 // It is made line by line, into a lent buffer.
 ghost use mathlib.Core.Bool.{true, false};
 ghost use mathlib.Core.Path.{_≡_};
-ghost use Rattle.report.specs.Report.{atFirst, after, Tells, stepReply, reply, lastReply};
+ghost use Rattle.report.specs.Report.{atFirst, nextReport, Tells, stepReply, reply, lastReply};
 use chain::Chain;
 use chain::Outcome;
 use messages::put_malformed;
@@ -93,7 +93,7 @@ impl Report {
     }
 
     fn goes_on(self, started: bool, chain: Chain, length: usize) -> Taken
-        ensures { λ r. ⌜ r ≡ record { report = after started chain self; length = length; ended = false } ⌝ }
+        ensures { λ r. ⌜ r ≡ record { report = nextReport started chain self; length = length; ended = false } ⌝ }
     {
         let report = Report {
             line: std::num::wrapping_add_u64(self.line, 1),

@@ -2,7 +2,7 @@
 -- Assumes nothing.
 use mathlib.Core.Path.{sym, ap, _∙_}
 use Rattle.steps.specs.declared.Step.the-variants.{Nothing}
-use Rattle.report.specs.Report.{stepReply, replyTo, reply}
+use Rattle.report.specs.Report.{stepReply, lineReply, reply}
 use Rattle.text.proofs.Written.{written-none}
 use Rattle.report.proofs.Told.{retold}
 use borrow.Author.Needs.{needs}
@@ -46,42 +46,42 @@ ends-requires : tie.Need-ends-requires
 ends-requires c κs = search needs
 
 returns : tie.Need-returns
-unfolding reply replyTo
+unfolding reply lineReply
 returns c =
-    retold (replyTo Nothing (c .before .before .before .before .before .before .args .self)) _ (c .before .before .before .before .before .before .args .page .now) _ _
-    (ap (λ s. replyTo s (c .before .before .before .before .before .before .args .self)) (sym (c .before .enum-told .given .1) ∙ c .before .before .before .step-of .ensures))
+    retold (lineReply Nothing (c .before .before .before .before .before .before .args .self)) _ (c .before .before .before .before .before .before .args .page .now) _ _
+    (ap (λ s. lineReply s (c .before .before .before .before .before .before .args .self)) (sym (c .before .enum-told .given .1) ∙ c .before .before .before .step-of .ensures))
     (ap (λ t. t .report) (c .goes-on .ensures), (ap (λ t. t .ended) (c .goes-on .ensures), ap (λ t. (c .before .before .before .before .before .before .args .page .now, t .length)) (c .goes-on .ensures) ∙ sym (written-none (c .before .before .before .before .before .before .args .page .now, 0))))
 
 same-length : tie.Need-same-length
 same-length c = search needs
 
 returns-2 : tie.Need-returns-2
-unfolding reply replyTo
+unfolding reply lineReply
 returns-2 c =
     retold _ _ (c .before .before .before .before .before .before .before .before .before .before .before .args .page .now) _ _
     (ap (λ o. stepReply 0 (o .answer) (o .chain) (c .before .before .before .before .before .before .before .before .before .before .before .args .self)) (c .before .before .before .before .start .ensures)
-    ∙ ap (λ s. replyTo s (c .before .before .before .before .before .before .before .before .before .before .before .args .self)) (sym (c .before .before .before .before .before .before .step .given .1) ∙ c .before .before .before .before .before .before .before .before .step-of .ensures))
+    ∙ ap (λ s. lineReply s (c .before .before .before .before .before .before .before .before .before .before .before .args .self)) (sym (c .before .before .before .before .before .before .step .given .1) ∙ c .before .before .before .before .before .before .before .before .step-of .ensures))
     (c .before .before .answer .ensures)
 
 same-length-2 : tie.Need-same-length-2
 same-length-2 c = search needs
 
 returns-3 : tie.Need-returns-3
-unfolding reply replyTo
+unfolding reply lineReply
 returns-3 c =
     retold _ _ (c .before .before .before .before .before .before .before .before .before .before .before .args .page .now) _ _
     (ap (λ o. stepReply (c .before .before .before .before .before .before .step2 .given .0 .0) (o .answer) (o .chain) (c .before .before .before .before .before .before .before .before .before .before .before .args .self)) (c .before .before .before .before .on .ensures)
-    ∙ ap (λ s. replyTo s (c .before .before .before .before .before .before .before .before .before .before .before .args .self)) (sym (c .before .before .before .before .before .before .step2 .given .1) ∙ c .before .before .before .before .before .before .before .before .step-of .ensures))
+    ∙ ap (λ s. lineReply s (c .before .before .before .before .before .before .before .before .before .before .before .args .self)) (sym (c .before .before .before .before .before .before .step2 .given .1) ∙ c .before .before .before .before .before .before .before .before .step-of .ensures))
     (c .before .before .answer2 .ensures)
 
 same-length-3 : tie.Need-same-length-3
 same-length-3 c = search needs
 
 returns-4 : tie.Need-returns-4
-unfolding reply replyTo
+unfolding reply lineReply
 returns-4 c =
     retold _ _ (c .before .before .before .before .before .before .before .before .before .before .before .args .page .now) _ _
-    (ap (λ s. replyTo s (c .before .before .before .before .before .before .before .before .before .before .before .args .self)) (sym (c .before .before .before .before .before .before .step3 .given .1) ∙ c .before .before .before .before .before .before .before .before .step-of .ensures))
+    (ap (λ s. lineReply s (c .before .before .before .before .before .before .before .before .before .before .before .args .self)) (sym (c .before .before .before .before .before .before .step3 .given .1) ∙ c .before .before .before .before .before .before .before .before .step-of .ensures))
     (ap (λ t. t .report) (c .ends .ensures), (ap (λ t. t .ended) (c .ends .ensures), ap (λ t. (c .before .before .before .put-malformed .last .0, t .length)) (c .ends .ensures) ∙ c .before .before .before .put-malformed .ensures))
 
 pub take-spec : {M : Type 1} → statement M
