@@ -2,7 +2,7 @@
 ghost use mathlib.Core.Bool.{true};
 ghost use mathlib.Core.Path.{_≡_};
 ghost use Rattle.chain.specs.Apply.{replacedIn, setIn, applied};
-ghost use Rattle.chain.specs.Seen.{seenAt, seenIn};
+ghost use Rattle.chain.specs.Seen.{lookedAt, lookedEi, seenAt, seenIn};
 ghost use Rattle.chain.specs.Walk.{walkedTo};
 ghost use Rattle.image.specs.Reading.{chainIn, isImage};
 use crate::places::chip_at;
@@ -48,17 +48,38 @@ fn seen_at(image: &[u8], at: u8, ei: bool) -> Seen
     }
 }
 
+// The number of the chip that an event looks at; the count where there is no such chip.
+fn looked_at(image: &[u8], look: Look) -> u8
+    requires { ⌜ isImage (now image) ≡ true ⌝ }
+    ensures { λ r. ⌜ r ≡ lookedAt look (chainIn (now (image .entry))) ⌝ }
+{
+    match look {
+        Look::Nowhere => image[COUNT],
+        Look::At(i) => i,
+        Look::AtEi(i) => i,
+        Look::Answering => walked(image, image[COUNT]).answering,
+    }
+}
+
+// Its Enable In, for an event that looks at it.
+fn looked_ei(image: &[u8], look: Look) -> bool
+    requires { ⌜ isImage (now image) ≡ true ⌝ }
+    ensures { λ r. ⌜ r ≡ lookedEi look (chainIn (now (image .entry))) ⌝ }
+{
+    match look {
+        Look::Nowhere => false,
+        Look::At(_) => false,
+        Look::AtEi(i) => walked(image, i).ei,
+        Look::Answering => false,
+    }
+}
+
 // What an event sees where it looks.
 pub(crate) fn seen_in(image: &[u8], look: Look) -> Seen
     requires { ⌜ isImage (now image) ≡ true ⌝ }
     ensures { λ r. ⌜ r ≡ seenIn look (chainIn (now (image .entry))) ⌝ }
 {
-    match look {
-        Look::Nowhere => seen_at(image, image[COUNT], false),
-        Look::At(i) => seen_at(image, i, false),
-        Look::AtEi(i) => seen_at(image, i, walked(image, i).ei),
-        Look::Answering => seen_at(image, walked(image, image[COUNT]).answering, false),
-    }
+    seen_at(image, looked_at(image, look), looked_ei(image, look))
 }
 
 // The chip that is replaced, if one is.
