@@ -1,28 +1,14 @@
 // A case under way: one chain, and whether every step so far went as the paper says.
 use chain::Chain;
 use chain::Outcome;
-use chain::PinView;
-use chain::RegisterView;
+use views::PinView;
+use views::RegisterView;
+use views::pin_view;
+use views::register_view;
 
 pub struct Bench {
     pub chain: Chain,
     pub held: bool,
-}
-
-// What the cases look at in a chip's table, and whether it was given.
-struct Table {
-    given: bool,
-    irr: u8,
-    isr: u8,
-    imr: u8,
-}
-
-// And in its picture.
-struct Picture {
-    given: bool,
-    gint: u8,
-    ei: u8,
-    pause: u8,
 }
 
 impl Bench {
@@ -133,69 +119,43 @@ impl Bench {
 
     // A field of a view has this value. A view that is refused shows nothing.
     pub fn irr(self, chip: u8, value: u8) -> Bench {
-        let table = self.table(chip);
-        self.shows(table.given & (table.irr == value))
+        let view = register_view(self.chain, chip);
+        self.tabled(view, view.table.irr == value)
     }
 
     pub fn isr(self, chip: u8, value: u8) -> Bench {
-        let table = self.table(chip);
-        self.shows(table.given & (table.isr == value))
+        let view = register_view(self.chain, chip);
+        self.tabled(view, view.table.isr == value)
     }
 
     pub fn imr(self, chip: u8, value: u8) -> Bench {
-        let table = self.table(chip);
-        self.shows(table.given & (table.imr == value))
+        let view = register_view(self.chain, chip);
+        self.tabled(view, view.table.imr == value)
     }
 
     pub fn gint(self, chip: u8, value: u8) -> Bench {
-        let picture = self.picture(chip);
-        self.shows(picture.given & (picture.gint == value))
+        let view = pin_view(self.chain, chip);
+        self.pictured(view, view.picture.gint == value)
     }
 
     pub fn ei(self, chip: u8, value: u8) -> Bench {
-        let picture = self.picture(chip);
-        self.shows(picture.given & (picture.ei == value))
+        let view = pin_view(self.chain, chip);
+        self.pictured(view, view.picture.ei == value)
     }
 
     pub fn pause(self, value: u8) -> Bench {
-        let picture = self.picture(0);
-        self.shows(picture.given & (picture.pause == value))
+        let view = pin_view(self.chain, 0);
+        self.pictured(view, view.picture.pause == value)
     }
 
-    fn table(self, chip: u8) -> Table {
-        let view = self.chain.register_view(chip);
-        match view {
-            RegisterView::Table(r) => Table {
-                given: true,
-                irr: r.irr,
-                isr: r.isr,
-                imr: r.imr,
-            },
-            RegisterView::NoTable(_) => Table {
-                given: false,
-                irr: 0,
-                isr: 0,
-                imr: 0,
-            },
-        }
+    fn tabled(self, view: RegisterView, so: bool) -> Bench {
+        let verdict = view.verdict;
+        self.shows(verdict.is_accepted() & so)
     }
 
-    fn picture(self, chip: u8) -> Picture {
-        let view = self.chain.pin_view(chip);
-        match view {
-            PinView::Picture(p) => Picture {
-                given: true,
-                gint: p.gint,
-                ei: p.ei,
-                pause: p.pause,
-            },
-            PinView::NoPicture(_) => Picture {
-                given: false,
-                gint: 0,
-                ei: 0,
-                pause: 0,
-            },
-        }
+    fn pictured(self, view: PinView, so: bool) -> Bench {
+        let verdict = view.verdict;
+        self.shows(verdict.is_accepted() & so)
     }
 
     fn shows(mut self, so: bool) -> Bench {
