@@ -1,4 +1,4 @@
-// A case under way: one chain, and whether every step so far went as the paper says.
+// A bench case under way: one chain, and whether every step so far went as the paper says. For the program `cases`; it promises nothing but to end.
 use chain::Chain;
 use chain::Outcome;
 use views::PinView;
