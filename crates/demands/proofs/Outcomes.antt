@@ -4,7 +4,7 @@ use mathlib.Core.Path.{_≡_, refl, sym, ap₂, _∙_}
 use mathlib.Core.List.{List}
 use Prim.Native.Nat.{ℕ}
 use Rattle.run.specs.declared.Ran.{Ran}
-use Rattle.am9519a.specs.Calls.{Called, RunCalled}
+use Rattle.am9519a.specs.Calls.{Called}
 use Rattle.demands.specs.Outcomes.{Only, OneOutcome}
 
 -- the promise to be what a definition gives
@@ -14,11 +14,6 @@ the-one given = record { taken = tt; satisfied = refl; no-two = λ x y px py. px
 -- a call from C is told by its number and its buffer
 same-call : (x y : Called) → x .number ≡ y .number → x .buffer ≡ y .buffer → x ≡ y
 same-call x y number buffer = ap₂ (λ (n : ℕ) (b : List ℕ). record { number = n; buffer = b }) number buffer
-
-same-run : (x y : RunCalled) → x .number ≡ y .number → x .image ≡ y .image → x .results ≡ y .results → x .accepted ≡ y .accepted → x ≡ y
-same-run x y number image results accepted =
-    ap₂ (λ (n : ℕ) (i : List ℕ). record { number = n; image = i; results = x .results; accepted = x .accepted }) number image
-    ∙ ap₂ (λ (r : List ℕ) (k : ℕ). record { number = y .number; image = y .image; results = r; accepted = k }) results accepted
 
 pub one-outcome : OneOutcome
 one-outcome =
@@ -54,12 +49,7 @@ one-outcome =
         satisfied = (refl, refl);
         no-two = λ x y px py. same-call x y (px .0 ∙ sym (py .0)) (px .1 ∙ sym (py .1));
       };
-      run-call = λ lent image events limit results accepted. record {
-        taken = tt;
-        satisfied = (refl, (refl, (refl, refl)));
-        no-two = λ x y px py.
-            same-run x y (px .0 ∙ sym (py .0)) (px .1 .0 ∙ sym (py .1 .0)) (px .1 .1 .0 ∙ sym (py .1 .1 .0)) (px .1 .1 .1 ∙ sym (py .1 .1 .1));
-      };
+      run-call = λ lent image events limit results accepted. record { taken = tt; satisfied = refl; no-two = λ x y px py. px ∙ sym py };
       registers-call = λ lent image chip view. record {
         taken = tt;
         satisfied = (refl, refl);

@@ -27,9 +27,9 @@ use Rattle.chain.proofs.Chain.fall.Reads as chain-fall
 use Rattle.chain.proofs.Chain.is_sound.Reads as chain-is-sound
 use Rattle.chain.proofs.Chain.line.Reads as chain-line
 use Rattle.chain.proofs.Chain.on.Reads as chain-on
-use Rattle.chain.proofs.Chain.pin_view.Reads as chain-pin-view
+use Rattle.views.proofs.pin_view.Reads as chain-pin-view
 use Rattle.chain.proofs.Chain.read.Reads as chain-read
-use Rattle.chain.proofs.Chain.register_view.Reads as chain-register-view
+use Rattle.views.proofs.register_view.Reads as chain-register-view
 use Rattle.chain.proofs.Chain.rise.Reads as chain-rise
 use Rattle.chain.proofs.Chain.start.Reads as chain-start
 use Rattle.chain.proofs.Chain.status.Reads as chain-status
@@ -37,7 +37,7 @@ use Rattle.refusal.specs.Answers.{verdictIn, handed}
 use Rattle.chain.specs.Events.{eventOf}
 use Rattle.chain.specs.Sound.{sound}
 use Rattle.chain.specs.Start.{startOf}
-use Rattle.chain.specs.Views.{registerView, pinView}
+use Rattle.views.specs.Views.{registerView, pinView}
 use Rattle.refusal.specs.declared.Answer.{Answer}
 use Rattle.chain.specs.declared.Chain.{Chain}
 use Rattle.event.specs.declared.Event.{Event}

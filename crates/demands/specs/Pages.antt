@@ -8,7 +8,6 @@ use Rattle.refusal.specs.declared.Answer.{Answer}
 use Rattle.chain.specs.declared.Chain.{Chain}
 use Rattle.steps.proofs.line.step_of.Reads as step-of
 use Rattle.steps.specs.Lines.{stepOf}
-use Rattle.steps.specs.declared.Kind.{Kind}
 use Rattle.page.proofs.put_page.Reads as put-page
 use Rattle.page.specs.Page.{pageOf}
 use Rattle.report.proofs.Report.new.Reads as report-new
@@ -37,7 +36,7 @@ pub record OnePage : Type 0 where
   pub new : Determined (report-new.Asked tt) (report-new.Post tt) tt atFirst
   pub step : (lent : Lfts 1) (started : Bool) (line : RefT (List ℕ))
       → Determined (step-of.Asked lent) (step-of.Post lent) (started, (line, tt)) (stepOf started (line .now))
-  pub page : (lent : Lfts 1) (to : RefT (List ℕ)) (at : ℕ) (kind : Kind) (answer : Answer) (s : Chain)
+  pub page : (lent : Lfts 1) (to : RefT (List ℕ)) (at : ℕ) (kind : ℕ) (answer : Answer) (s : Chain)
       → Only (put-page.Asked lent (to, (at, (kind, (answer, (s, tt))))))
       (λ (c : List ℕ × ℕ). put-page.Post lent (to, (at, (kind, (answer, (s, tt))))) (c .1) (at-last to (c .0), (at, (kind, (answer, (s, tt))))))
       (written (to .now, at) (pageOf kind answer s))
