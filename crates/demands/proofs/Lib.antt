@@ -7,8 +7,6 @@ pub mod Demand3
 pub mod FromC
 pub mod Kept
 pub mod Misread
-pub mod Outcomes
-pub mod Pages
 pub mod Performed
 pub mod Rules
 pub mod Runs

@@ -1,5 +1,5 @@
 -- The calls from C over an image of a chain: by the one table of numbers, without a trace where they are refused, and otherwise the model's own calls
--- between reading the image and writing it. That each call hands back and leaves just this is `Outcomes`: `start-call`, `run-call`, `registers-call`, `pins-call`.
+-- between reading the image and writing it. That each call hands back and leaves just this is `outcomes/specs/Outcomes`: `start-call`, `run-call`, `registers-call`, `pins-call`.
 use mathlib.Core.Bool.{Bool, true, false, not, _&&_, _||_}
 use mathlib.Core.List.{List, [], _∷_, _++_}
 use mathlib.Core.Path.{_≡_}
