@@ -3,7 +3,7 @@
 use mathlib.Core.Bool.{Bool, true, false, _&&_}
 use mathlib.Core.List.{List, [], _∷_}
 use mathlib.Core.Logic.{⊎-elim}
-use mathlib.Core.Path.{_≡_, refl, ap, sym, subst, _∙_}
+use mathlib.Core.Path.{_≡_, refl, ap, ap₂, sym, subst, _∙_}
 use Prim.Native.Nat.{ℕ, _+_, _%_, _≤_, _<_}
 use native.Mathlib.Nat.{mod-lt}
 use native.Mathlib.Omega.{arith}
@@ -25,20 +25,17 @@ use Rattle.event.specs.declared.Event.{Event}
 use Rattle.event.specs.declared.Event.the-variants.{Command, Data, Status, Read, Line, Enable, Fall, Rise}
 use Rattle.chip.specs.Fields.{zeroChip}
 use Rattle.chip.specs.declared.Chip.{Chip}
-use Rattle.response.specs.Held.{endsResponse, isIdle, isResponding}
+use Rattle.response.specs.Held.{isIdle, isResponding}
 use Rattle.response.specs.declared.Reply.{Reply}
 use Rattle.response.specs.declared.Response.{Response}
 use Rattle.response.specs.declared.Response.the-variants.{Idle, UnderWay}
 use Rattle.decide.proofs.Answered.{decided-tells}
 use Rattle.decide.proofs.Passed.{passed-names}
-use Rattle.decide.proofs.Rules.{changes}
 use Rattle.decide.proofs.Soundness.{selected-is}
-use Rattle.decide.specs.Decided.{ending, decided}
 use Rattle.decide.specs.Look.{respondingOr}
-use Rattle.decide.specs.Pulse.{selectedBy, driving, firstPulse, fallen, risenAfter, risen}
+use Rattle.decide.specs.Pulse.{selectedBy}
 use Rattle.decide.specs.declared.Change.{Change}
 use Rattle.decide.specs.declared.Look.the-variants.{Nowhere, Answering}
-use Rattle.decide.specs.declared.Seen.{Seen}
 use Rattle.chain.proofs.Kept as kept
 use Rattle.chain.proofs.Number.{applied-number}
 use Rattle.chain.proofs.Passed.{passed-sound, passed-tests}
@@ -48,11 +45,12 @@ use Rattle.chain.specs.Apply.{replacedIn, applied, decision, answerOf, counted}
 use Rattle.chain.specs.Events.{accepted, refused, judged, eventOf}
 use Rattle.chain.specs.Fields.{chipAt}
 use Rattle.chain.specs.Refusals.{verdictOf}
-use Rattle.chain.specs.Seen.{seenAt, seenIn, seenBy, selected}
+use Rattle.chain.specs.Seen.{lookedAt, seenAt, seenIn, seenBy, selected}
 use Rattle.chain.specs.Sound.{sound}
 use Rattle.chain.specs.declared.Chain.{Chain}
 use Rattle.demands.specs.Along.{after, along, acceptedIn}
 use Rattle.demands.specs.Kept.{Kept, replaces}
+use Rattle.demands.proofs.Puts.{puts}
 
 -- a chip of a chain to which a change is applied: the one that the change puts in this place, or the one of before
 pub applied-there : (P : Chip → Type 0) (c : Change) (s : Chain) (k : ℕ) → (c .replaces ≡ true → c .at ≡ k → P (c .chip)) → P (chipAt s k) → P (chipAt (applied c s) k)
@@ -75,46 +73,29 @@ applied-records c s = either (λ (t : Chain). length (t .chips) ≡ length (s .c
     replaced : length (replacedIn c s .chips) ≡ length (s .chips)
     replaced = either (λ (t : Chain). length (t .chips) ≡ length (s .chips)) (c .replaces) _ s (λ put. length-set (s .chips) (c .at) (c .chip)) (λ none. refl)
 
--- a change replaces no chip but where it may
-abbrev Within : (ℕ → Bool) → Change → Type 0
-Within may c = c .replaces ≡ true → may (c .at) ≡ true
+-- an event replaces no chip but the one that it may replace
+pub first-there : (s : Chain) (r : Reply) → s .response ≡ Idle → selectedBy (seenBy Fall s) ≡ UnderWay r → replaces Fall s (seenBy Fall s .at) ≡ true
+unfolding selected
+first-there s r idle found =
+    let is : selected s ≡ UnderWay r = ap (λ response. selectedBy (seenIn (respondingOr Answering response) s)) (sym idle) ∙ found in
+    ap₂ (λ (response found : Response). isIdle response && isResponding found (seenBy Fall s .at)) idle is
+    ∙ eq-eqb (r .chip) (seenBy Fall s .at) (ap (λ (r : Reply). r .chip) (selected-is (seenBy Fall s) r found .1))
 
-first-within : (found : Response) (v : Seen) → selectedBy v ≡ found → Within (isResponding found) (firstPulse found v)
-unfolding changes firstPulse
-first-within Idle v is put = not-both put
-first-within (UnderWay r) v is put = eq-eqb (r .chip) (v .at) (ap (λ (r : Reply). r .chip) (selected-is v r is .1))
-
-fall-within : (response : Response) (s : Chain)
-    → Within (λ k. isIdle response && isResponding (selected s) k) (fallen response (seenIn (respondingOr Answering response) s))
-unfolding changes driving fallen selected
-fall-within Idle s = first-within (selected s) (seenIn Answering s) refl
-fall-within (UnderWay r) s = λ put. not-both put
-
-after-within : (last : Bool) (r : Reply) (v : Seen) → r .chip ≡ v .at → Within (eqb (r .chip)) (risenAfter last r v)
-unfolding changes risenAfter
-after-within true r v is put = eq-eqb (r .chip) (v .at) is
-after-within false r v is put = not-both put
-
-rise-within : (response : Response) (s : Chain) → Within (isResponding response) (risen response (seenIn (respondingOr Nowhere response) s))
-unfolding changes risen seenAt
-rise-within Idle s put = not-both put
-rise-within (UnderWay r) s put = after-within _ r _ refl put
-
-ending-within : (ends : Bool) (v : Seen) (may : ℕ → Bool) (c : Change) → Within may c → Within may (ending ends v c)
-unfolding changes
-ending-within true v may c within = within
-ending-within false v may c within = within
-
-pub within : (e : Event) (s : Chain) → decision e s .replaces ≡ true → replaces e s (decision e s .at) ≡ true
-unfolding changes decided decision seenAt
-within (Command i code) s put = ending-within (endsResponse i code (s .response)) (seenBy (Command i code) s) (eqb i) _ (λ put. eq-eqb i i refl) put
-within (Data i byte) s put = eq-eqb i i refl
-within (Status i) s put = not-both put
-within (Read i) s put = not-both put
-within (Line i channel level) s put = eq-eqb i i refl
-within (Enable level) s put = not-both put
-within Fall s put = fall-within (s .response) s put
-within Rise s put = rise-within (s .response) s put
+within : (e : Event) (s : Chain) → decision e s .replaces ≡ true → replaces e s (decision e s .at) ≡ true
+unfolding decision seenAt
+within e s put =
+    let there : (decision e s .at ≡ seenBy e s .at) × (replaces e s (seenBy e s .at) ≡ true) =
+    puts (λ e. seenBy e s) (λ e c. replaces e s (seenBy e s .at) ≡ true)
+    (record {
+      command = λ i code. eq-eqb i i refl;
+      data-write = λ i byte. eq-eqb i i refl;
+      line = λ i channel level. eq-eqb i i refl;
+      first-pulse = λ r idle found. first-there s r idle found;
+      last-rise = λ r under.
+          ap (λ response. isResponding response (lookedAt (respondingOr Nowhere response) s)) under ∙ eq-eqb (r .chip) (r .chip) refl;
+    })
+    e put in
+    subst (λ (k : ℕ). replaces e s k ≡ true) (sym (there .0)) (there .1)
 
 -- what an event leaves is the chain of before or, where it is accepted, the chain with its change applied
 pub left : (P : Chain → Type 0) (v : Verdict) (e : Event) (s : Chain) → P s → (v ≡ Accepted → P (counted (applied (decision e s) s))) → P (judged v e s .chain)

@@ -8,6 +8,7 @@ pub mod FromC
 pub mod Kept
 pub mod Misread
 pub mod Performed
+pub mod Puts
 pub mod Rules
 pub mod Runs
 pub mod Table

@@ -24,27 +24,24 @@ use Rattle.refusal.specs.declared.Verdict.the-variants.{Accepted}
 use Rattle.event.proofs.Told.{is-fall}
 use Rattle.event.specs.Numbers.{isFall}
 use Rattle.event.specs.declared.Event.{Event}
-use Rattle.event.specs.declared.Event.the-variants.{Command, Data, Status, Read, Line, Enable, Fall, Rise}
+use Rattle.event.specs.declared.Event.the-variants.{Fall, Rise}
 use Rattle.chip.proofs.Pointer.{answered-pointer, commanded-pointer, written-pointer, line-pointer, finished-pointer}
 use Rattle.chip.proofs.Soundness.{pointer-sound}
 use Rattle.chip.specs.Fields.{zeroChip}
-use Rattle.chip.specs.Command.{commanded}
-use Rattle.chip.specs.Figure4.{figure4, isReset}
+use Rattle.chip.specs.Figure4.{isReset}
 use Rattle.chip.specs.Status.{isArmed, isPolled, isRotating, candidateOf, gintActive}
 use Rattle.chip.specs.declared.Chip.{Chip}
-use Rattle.response.specs.Held.{replyOf, isIdle, isResponding, endsResponse}
+use Rattle.response.specs.Held.{replyOf, isIdle, isResponding}
 use Rattle.response.specs.declared.Reply.{Reply}
 use Rattle.response.specs.declared.Response.{Response}
 use Rattle.response.specs.declared.Response.the-variants.{Idle, UnderWay}
 use Rattle.decide.proofs.Rules.{changes}
 use Rattle.decide.proofs.Soundness.{selected-is}
-use Rattle.decide.specs.Change.{nothing, replacing}
-use Rattle.decide.specs.Decided.{ending, decided}
+use Rattle.decide.specs.Decided.{decided}
 use Rattle.decide.specs.Look.{respondingOr}
-use Rattle.decide.specs.Pulse.{driving, firstPulse, fallen, risenAfter, risen}
+use Rattle.decide.specs.Pulse.{driving, firstPulse, fallen}
 use Rattle.decide.specs.declared.Change.{Change}
-use Rattle.decide.specs.declared.Look.the-variants.{Nowhere, Answering}
-use Rattle.decide.specs.declared.Seen.{Seen}
+use Rattle.decide.specs.declared.Look.the-variants.{Answering}
 use Rattle.chain.proofs.Acknowledge.{Answers, selected-answers, ei-high, reached-selected}
 use Rattle.chain.proofs.Rules.{chainFields, applying}
 use Rattle.chain.proofs.Soundness.{chip-sound}
@@ -58,7 +55,8 @@ use Rattle.chain.specs.Walk.{answeringChip}
 use Rattle.chain.specs.declared.Chain.{Chain}
 use Rattle.demands.specs.Kept.{replaces}
 use Rattle.demands.specs.Wait.{waits, isFirstPulse, isFor, isForAnother, answersIt, answersAnother, resets, reaches, isCounted}
-use Rattle.demands.proofs.Kept.{applied-there, within, left}
+use Rattle.demands.proofs.Kept.{applied-there, first-there, left}
+use Rattle.demands.proofs.Puts.{Ways, puts}
 
 -- what a waiting request says of its chip
 record Waiting (c : Chip) (channel : ℕ) : Type 0 where
@@ -93,52 +91,39 @@ last-false true b ea e = e
 last-false false b ea e = not-both ea
 
 -- what is put in the place of chip i has its pointer
-abbrev Same : ℕ → Chain → Change → Type 0
-Same i s c = c .replaces ≡ true → c .at ≡ i → c .chip .pointer ≡ pointerAt s i
+module _ (s : Chain) (i : ℕ) where
+  abbrev Same : Event → Chip → Type 0
+  Same e c =
+      verdictOf e s ≡ Accepted → resets i e s ≡ false → isFirstPulse e s && isResponding (selected s) i ≡ false → seenBy e s .at ≡ i → c .pointer ≡ pointerAt s i
 
-ending-pointer : (ends : Bool) (i : ℕ) (s : Chain) (v : Seen) (c : Change) → Same i s c → Same i s (ending ends v c)
-unfolding changes
-ending-pointer true i s v c same = same
-ending-pointer false i s v c same = same
+  first-answered : (ok idle responding : Bool) → ok ≡ true → ok && idle && responding ≡ false → idle && responding ≡ false
+  first-answered true idle responding e quiet = quiet
+  first-answered false idle responding e quiet = not-both e
 
-after-pointer : (last : Bool) (r : Reply) (i : ℕ) (s : Chain) (ei : Bool) → Same i s (risenAfter last r (seenAt (r .chip) ei s))
-unfolding changes risenAfter seenAt
-after-pointer true r i s ei put is = finished-pointer (r .channel) (chipAt s (r .chip)) ∙ ap (pointerAt s) is
-after-pointer false r i s ei put is = not-both put
-
-rise-pointer : (response : Response) (i : ℕ) (s : Chain) → Same i s (risen response (seenIn (respondingOr Nowhere response) s))
-unfolding changes risen
-rise-pointer Idle i s put is = not-both put
-rise-pointer (UnderWay r) i s put is = after-pointer _ r i s false put is
-
-decision-pointer : (e : Event) (s : Chain) (i : ℕ) → verdictOf e s ≡ Accepted → resets i e s ≡ false → isFirstPulse e s && isResponding (selected s) i ≡ false
-    → Same i s (decision e s)
-unfolding changes decision decided seenAt
-decision-pointer (Command j code) s i v none quiet =
-    ending-pointer (endsResponse j code (s .response)) i s (seenBy (Command j code) s) (replacing j (commanded (figure4 code) code (chipAt s j)) nothing)
-    (λ put is. commanded-pointer code (chipAt s j) (middle-false (eqb j i) (isReset code) _ (eq-eqb j i is) (ap isAccepted v) none) ∙ ap (pointerAt s) is)
-decision-pointer (Data j byte) s i v none quiet = λ put is. written-pointer (chipAt s j .destination) byte (chipAt s j) ∙ ap (pointerAt s) is
-decision-pointer (Status j) s i v none quiet = λ put is. not-both put
-decision-pointer (Read j) s i v none quiet = λ put is. not-both put
-decision-pointer (Line j channel level) s i v none quiet = λ put is. line-pointer channel (eqb level 1) (chipAt s j) ∙ ap (pointerAt s) is
-decision-pointer (Enable level) s i v none quiet = λ put is. not-both put
-decision-pointer Fall s i v none quiet = λ put is.
-    not-both
-    (sym (first-answered (isAccepted (verdictOf Fall s)) (isIdle (s .response)) _ (ap isAccepted v) quiet)
-    ∙ subst (λ (k : ℕ). replaces Fall s k ≡ true) is (within Fall s put))
-  where
-    first-answered : (ok idle responding : Bool) → ok ≡ true → ok && idle && responding ≡ false → idle && responding ≡ false
-    first-answered true idle responding e quiet = quiet
-    first-answered false idle responding e quiet = not-both e
-decision-pointer Rise s i v none quiet = rise-pointer (s .response) i s
+  ways : Ways (λ e. seenBy e s) Same
+  unfolding seenAt
+  ways =
+      record {
+        command = λ j code ok none quiet is.
+            commanded-pointer code (chipAt s j) (middle-false (eqb j i) (isReset code) _ (eq-eqb j i is) (ap isAccepted ok) none) ∙ ap (pointerAt s) is;
+        data-write = λ j byte ok none quiet is. written-pointer (chipAt s j .destination) byte (chipAt s j) ∙ ap (pointerAt s) is;
+        line = λ j channel level ok none quiet is. line-pointer channel (eqb level 1) (chipAt s j) ∙ ap (pointerAt s) is;
+        first-pulse = λ r idle found ok none quiet is.
+            not-both
+            (sym (first-answered (isAccepted (verdictOf Fall s)) (isIdle (s .response)) _ (ap isAccepted ok) quiet)
+            ∙ subst (λ (k : ℕ). replaces Fall s k ≡ true) is (first-there s r idle found));
+        last-rise = λ r under ok none quiet is. finished-pointer (r .channel) (seenBy Rise s .chip) ∙ ap (pointerAt s) is;
+      }
 
 -- every event but a reset and a first pulse that the chip answers leaves its pointer
 quiet-step : (e : Event) (s : Chain) (i : ℕ) → resets i e s ≡ false → isFirstPulse e s && isResponding (selected s) i ≡ false
     → pointerAt (eventOf e s .chain) i ≡ pointerAt s i
-unfolding eventOf chainFields counted
+unfolding eventOf chainFields counted decision
 quiet-step e s i none quiet =
     left (λ t. pointerAt t i ≡ pointerAt s i) (verdictOf e s) e s refl
-    (λ ok. applied-there (λ (c : Chip). c .pointer ≡ pointerAt s i) (decision e s) s i (decision-pointer e s i ok none quiet) refl)
+    (λ ok. applied-there (λ (c : Chip). c .pointer ≡ pointerAt s i) (decision e s) s i
+    (λ put is. let there = puts (λ e. seenBy e s) (Same s i) (ways s i) e put in there .1 ok none quiet (sym (there .0) ∙ is))
+    refl)
 
 -- after a first pulse the pointer of the chip that answers is the channel
 in-list : (l : List Chip) (i : ℕ) → isArmed (getD l i zeroChip) ≡ true → i < length l

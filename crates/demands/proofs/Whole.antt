@@ -10,10 +10,8 @@ use borrow.Author.Tests.{ltb-true, ltb-false}
 use Rattle.bits.proofs.Below.{either}
 use Rattle.bits.proofs.Stored.{getD-past}
 use Rattle.bits.specs.Byte.{bit}
-use Rattle.refusal.proofs.Numbers.{not-both}
 use Rattle.refusal.specs.declared.Verdict.{Verdict}
 use Rattle.event.specs.declared.Event.{Event}
-use Rattle.event.specs.declared.Event.the-variants as event
 use Rattle.event.specs.declared.Listed.{Listed}
 use Rattle.event.specs.declared.Listed.the-variants.{Known, Unknown}
 use Rattle.chip.proofs.Rules.{chipFields}
@@ -31,14 +29,7 @@ use Rattle.chip.specs.declared.Destination.{Destination}
 use Rattle.chip.specs.declared.Destination.the-variants.{Nowhere, Imr, Acr, Level}
 use Rattle.chip.specs.declared.Meaning.{Meaning}
 use Rattle.chip.specs.declared.Meaning.the-variants.{Row, Undefined}
-use Rattle.response.specs.Held.{endsResponse}
-use Rattle.response.specs.declared.Reply.{Reply}
-use Rattle.response.specs.declared.Response.{Response}
-use Rattle.response.specs.declared.Response.the-variants.{Idle, UnderWay}
-use Rattle.decide.proofs.Rules.{changes}
-use Rattle.decide.specs.Decided.{ending, decided}
-use Rattle.decide.specs.Pulse.{selectedBy, driving, firstPulse, fallen, risenAfter, risen}
-use Rattle.decide.specs.declared.Change.{Change}
+use Rattle.decide.specs.Decided.{decided}
 use Rattle.decide.specs.declared.Seen.{Seen}
 use Rattle.chain.proofs.Kept.{applied-chips}
 use Rattle.chain.proofs.Rules.{chainFields}
@@ -56,6 +47,7 @@ use Rattle.run.specs.List.{listedAt}
 use Rattle.run.specs.Run.{listLength, listedOutcome, runFrom, runOf}
 use Rattle.image.specs.OneToOne.{WholeChip, Whole}
 use Rattle.demands.proofs.Kept.{left, records}
+use Rattle.demands.proofs.Puts.{puts}
 use Rattle.demands.proofs.Runs as runs
 
 -- one chip is as large as another
@@ -116,45 +108,18 @@ finished-as channel c =
     either (AsLarge c) (bit (c .acr) channel) _ _ (λ auto. record { counts = refl; memory = refl }) (λ not-auto. record { counts = refl; memory = refl })
 
 -- the chip that is put in a chip's place is as large as the one that is seen there
-abbrev Large : Seen → Change → Type 0
-Large v c = c .replaces ≡ true → AsLarge (v .chip) (c .chip)
-
-first-large : (found : Response) (v : Seen) → Large v (firstPulse found v)
-unfolding changes driving firstPulse
-first-large Idle v put = not-both put
-first-large (UnderWay r) v put = answered-as (r .channel) (v .chip)
-
-fallen-large : (response : Response) (v : Seen) → Large v (fallen response v)
-unfolding changes driving fallen
-fallen-large Idle v = first-large (selectedBy v) v
-fallen-large (UnderWay r) v = λ put. not-both put
-
-after-large : (last : Bool) (r : Reply) (v : Seen) → Large v (risenAfter last r v)
-unfolding changes risenAfter
-after-large true r v put = finished-as (r .channel) (v .chip)
-after-large false r v put = not-both put
-
-risen-large : (response : Response) (v : Seen) → Large v (risen response v)
-unfolding changes risen
-risen-large Idle v put = not-both put
-risen-large (UnderWay r) v put = after-large (eqb (r .delivered) (r .length)) r v put
-
-ending-large : (ends : Bool) (v : Seen) (c : Change) → Large v c → Large v (ending ends v c)
-unfolding changes
-ending-large true v c large = large
-ending-large false v c large = large
-
-decided-large : (e : Event) (v : Seen) → Large v (decided e v)
-unfolding changes decided
-decided-large (event.Command i code) v =
-    ending-large (endsResponse (v .at) code (v .response)) v _ (λ put. commanded-as (figure4 code) code (v .chip))
-decided-large (event.Data i byte) v = λ put. written-as (v .chip .destination) byte (v .chip)
-decided-large (event.Status i) v = λ put. not-both put
-decided-large (event.Read i) v = λ put. not-both put
-decided-large (event.Line i channel level) v = λ put. line-as channel (eqb level 1) (v .chip)
-decided-large (event.Enable level) v = λ put. not-both put
-decided-large event.Fall v = fallen-large (v .response) v
-decided-large event.Rise v = risen-large (v .response) v
+decided-large : (e : Event) (v : Seen) → decided e v .replaces ≡ true → AsLarge (v .chip) (decided e v .chip)
+decided-large e v put =
+    puts (λ e. v) (λ e c. AsLarge (v .chip) c)
+    (record {
+      command = λ i code. commanded-as (figure4 code) code (v .chip);
+      data-write = λ i byte. written-as (v .chip .destination) byte (v .chip);
+      line = λ i channel level. line-as channel (eqb level 1) (v .chip);
+      first-pulse = λ r idle found. answered-as (r .channel) (v .chip);
+      last-rise = λ r under. finished-as (r .channel) (v .chip);
+    })
+    e put
+    .1
 
 zero-whole : WholeChip zeroChip
 unfolding zeroChip
