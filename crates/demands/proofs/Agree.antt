@@ -8,16 +8,15 @@ use Rattle.bits.specs.Byte.{bit}
 use Rattle.search.specs.Candidate.{exists}
 use Rattle.chip.specs.Status.{isPolled, candidateOf, gintActive, gintPin}
 use Rattle.chip.specs.declared.Chip.{Chip}
-use Rattle.chain.specs.Views.{tabled, pictured, tableOf, pictureOf, pinView}
+use Rattle.views.specs.Views.{tableOf, pictureOf, registerView, pinView}
 use Rattle.chain.specs.Fields.{chipAt}
 use Rattle.chain.specs.Pins.{ei}
 use Rattle.chain.specs.declared.Chain.{Chain}
-use Rattle.chain.specs.declared.PinView.{PinView}
-use Rattle.chain.specs.declared.RegisterView.{RegisterView}
+use Rattle.views.specs.declared.PinView.{PinView}
+use Rattle.views.specs.declared.RegisterView.{RegisterView}
 use Rattle.demands.specs.Agree.{gintReadsActive, Agree, Agreement}
 use Rattle.demands.specs.Rules.{StatusBits}
 use Rattle.demands.proofs.Rules.{by-the-rules}
-use Rattle.demands.proofs.Table.{by-the-table}
 
 -- the pin by M3, read again by M3
 pin-read : (mode : ℕ) (m3 active : Bool) → bit mode 3 ≡ m3 → gintReadsActive mode (gintPin mode active) ≡ active
@@ -42,10 +41,11 @@ one-state s chip =
     }
 
 pub agreement : Agreement
+unfolding registerView pinView
 agreement =
     record {
       agree = λ s chip e h.
-          subst (λ (v : RegisterView). Agree (tabled v .registers) (pictured (pinView chip s) .pins)) (sym (by-the-rules .table s chip e h))
-          (subst (λ (v : PinView). Agree (tableOf chip s) (pictured v .pins)) (sym (by-the-rules .picture s chip e h)) (one-state s chip));
-      both-or-neither = λ s chip. by-the-table .register-view chip s ∙ sym (by-the-table .pin-view chip s);
+          subst (λ (v : RegisterView). Agree (v .table) (pinView chip s .picture)) (sym (by-the-rules .table s chip e h))
+          (subst (λ (v : PinView). Agree (tableOf chip s) (v .picture)) (sym (by-the-rules .picture s chip e h)) (one-state s chip));
+      both-or-neither = λ s chip. refl;
     }

@@ -1,9 +1,9 @@
 -- The first demand, from its parts.
 -- Assumes nothing.
+use Rattle.outcomes.proofs.Outcomes as outcomes
+use Rattle.outcomes.proofs.Pages as pages
 use Rattle.demands.specs.Demand1.{Demand1}
 use Rattle.demands.proofs.FromC as calls
-use Rattle.demands.proofs.Outcomes as outcomes
-use Rattle.demands.proofs.Pages as pages
 use Rattle.demands.proofs.Table as table
 use Rattle.demands.proofs.Unchanged as unchanged
 

@@ -15,15 +15,16 @@ use Rattle.refusal.specs.Numbers.{verdictNumber, isAccepted, firstOf}
 use Rattle.refusal.specs.declared.Refusal.the-variants.{NotSound, NoSuchChip, BrokenEvent, ShortResults}
 use Rattle.refusal.specs.declared.Verdict.{Verdict}
 use Rattle.refusal.specs.declared.Verdict.the-variants.{Accepted, Refused}
-use Rattle.chain.specs.Views.{tabled, pictured, tableOf, pictureOf}
-use Rattle.chain.specs.Refusals.{notSound, noSuchChip}
+use Rattle.views.specs.Views.{tableOf, pictureOf}
+use Rattle.decide.specs.Refusals.{noSuchChip}
+use Rattle.chain.specs.Refusals.{notSound}
 use Rattle.chain.specs.Sound.{sound, countSound}
 use Rattle.chain.specs.Start.{startOf}
 use Rattle.chain.specs.declared.Chain.{Chain}
-use Rattle.chain.specs.declared.PinView.{PinView}
-use Rattle.chain.specs.declared.Pins.{Pins}
-use Rattle.chain.specs.declared.RegisterView.{RegisterView}
-use Rattle.chain.specs.declared.Registers.{Registers}
+use Rattle.views.specs.declared.PinView.{PinView}
+use Rattle.views.specs.declared.Pins.{Pins}
+use Rattle.views.specs.declared.RegisterView.{RegisterView}
+use Rattle.views.specs.declared.Registers.{Registers}
 use Rattle.run.specs.Run.{Report, brokenEvent, shortResults, beforeAny, runOf}
 use Rattle.image.proofs.OneToOne.{one-to-one}
 use Rattle.image.specs.Layout.{head, imageOf, over}
@@ -78,17 +79,17 @@ view-rest (Refused why) view new n is = refl
 
 -- one that is accepted is of an image, of a sound chain, and of a chip in its count
 seen : (n : ℕ) (image : List ℕ) (chip : ℕ) (view : List ℕ) (s : Chain)
-    → firstOf (notAnImage image ∷ notSound s ∷ noSuchChip chip s ∷ shortBuffer n view ∷ []) ≡ Accepted
+    → firstOf (notAnImage image ∷ notSound s ∷ noSuchChip (s .count) chip ∷ shortBuffer n view ∷ []) ≡ Accepted
     → (isImage image ≡ true) × ((sound s ≡ true) × (chip < s .count))
 seen n image chip view s is =
-    let rest : firstOf (notSound s ∷ noSuchChip chip s ∷ shortBuffer n view ∷ []) ≡ Accepted =
-    passed-rest (not (isImage image)) NotSound (notSound s ∷ noSuchChip chip s ∷ shortBuffer n view ∷ []) is in (
-      not-false (isImage image) (passed-first (not (isImage image)) NotSound (notSound s ∷ noSuchChip chip s ∷ shortBuffer n view ∷ []) is),
+    let rest : firstOf (notSound s ∷ noSuchChip (s .count) chip ∷ shortBuffer n view ∷ []) ≡ Accepted =
+    passed-rest (not (isImage image)) NotSound (notSound s ∷ noSuchChip (s .count) chip ∷ shortBuffer n view ∷ []) is in (
+      not-false (isImage image) (passed-first (not (isImage image)) NotSound (notSound s ∷ noSuchChip (s .count) chip ∷ shortBuffer n view ∷ []) is),
       (
-        not-false (sound s) (passed-first (not (sound s)) NotSound (noSuchChip chip s ∷ shortBuffer n view ∷ []) rest),
+        not-false (sound s) (passed-first (not (sound s)) NotSound (noSuchChip (s .count) chip ∷ shortBuffer n view ∷ []) rest),
         leb-false (s .count) chip
             (passed-first (leb (s .count) chip) NoSuchChip (shortBuffer n view ∷ [])
-            (passed-rest (not (sound s)) NotSound (noSuchChip chip s ∷ shortBuffer n view ∷ []) rest)),
+            (passed-rest (not (sound s)) NotSound (noSuchChip (s .count) chip ∷ shortBuffer n view ∷ []) rest)),
       ),
     )
 
@@ -288,8 +289,8 @@ from-c =
     record {
       start-number = start-number;
       run-number = run-number;
-      registers-number = λ image chip view. first-given (notAnImage image ∷ notSound (chainIn image) ∷ noSuchChip chip (chainIn image) ∷ shortBuffer 9 view ∷ []);
-      pins-number = λ image chip view. first-given (notAnImage image ∷ notSound (chainIn image) ∷ noSuchChip chip (chainIn image) ∷ shortBuffer 8 view ∷ []);
+      registers-number = λ image chip view. first-given (notAnImage image ∷ notSound (chainIn image) ∷ noSuchChip (chainIn image .count) chip ∷ shortBuffer 9 view ∷ []);
+      pins-number = λ image chip view. first-given (notAnImage image ∷ notSound (chainIn image) ∷ noSuchChip (chainIn image .count) chip ∷ shortBuffer 8 view ∷ []);
       start-refused = not-started;
       run-refused = run-refused;
       registers-refused = λ image chip view other. refused-leaves (viewCheck 9 image chip view) view _ other;
@@ -311,11 +312,11 @@ as-the-model =
       registers = λ image chip view e.
           let h : (isImage image ≡ true) × ((sound (chainIn image) ≡ true) × (chip < chainIn image .count)) = table-seen image chip view e in
           table-shown image chip view e
-          ∙ sym (ap (λ (v : RegisterView). over view 0 (tableBytes (tabled v .registers))) (by-the-rules .table (chainIn image) chip (h .1 .0) (h .1 .1)));
+          ∙ sym (ap (λ (v : RegisterView). over view 0 (tableBytes (v .table))) (by-the-rules .table (chainIn image) chip (h .1 .0) (h .1 .1)));
       pins = λ image chip view e.
           let h : (isImage image ≡ true) × ((sound (chainIn image) ≡ true) × (chip < chainIn image .count)) = picture-seen image chip view e in
           picture-shown image chip view e
-          ∙ sym (ap (λ (v : PinView). over view 0 (pictureBytes (pictured v .pins))) (by-the-rules .picture (chainIn image) chip (h .1 .0) (h .1 .1)));
+          ∙ sym (ap (λ (v : PinView). over view 0 (pictureBytes (v .picture))) (by-the-rules .picture (chainIn image) chip (h .1 .0) (h .1 .1)));
       agree = λ image chip table picture e f.
           subst (λ (b : List ℕ). BytesAgree b (pinsCall image chip picture .buffer)) (sym (table-shown image chip table e))
           (subst (BytesAgree (over table 0 (tableBytes (tableOf chip (chainIn image))))) (sym (picture-shown image chip picture f))

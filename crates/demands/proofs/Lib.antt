@@ -7,9 +7,8 @@ pub mod Demand3
 pub mod FromC
 pub mod Kept
 pub mod Misread
-pub mod Outcomes
-pub mod Pages
 pub mod Performed
+pub mod Puts
 pub mod Rules
 pub mod Runs
 pub mod Table

@@ -5,7 +5,8 @@ use Rattle.demands.specs.Bench.{all}
 use Rattle.demands.specs.Cases.{Hold}
 use Rattle.demands.specs.Misread.{misreadings}
 use Rattle.chain.proofs.Rules.{rules}
+use Rattle.views.specs.Views.{registerView, pinView}
 
 pub not-misread : Hold misreadings
-unfolding rules all
+unfolding rules registerView pinView all
 not-misread = (refl, (refl, (refl, (refl, (refl, tt)))))

@@ -1,24 +1,30 @@
 -- What an accepted event and the two views give, proved.
 -- Assumes nothing.
 use mathlib.Core.Bool.{Bool, true, false}
-use mathlib.Core.Path.{_≡_, ap, sym, _∙_}
+use mathlib.Core.Path.{_≡_, refl, ap, sym, _∙_}
 use Prim.Native.Nat.{ℕ, _+_, _*_, _/_, _%_, _<_}
 use native.Mathlib.Omega.{arith}
 use lib.Dec.{eqb}
-use borrow.Author.Tests.{lt-leb, ltb-true}
+use borrow.Author.Tests.{lt-leb}
 use Rattle.bits.proofs.Below.{digit-lt}
 use Rattle.bits.specs.Below.{digit, howMany}
 use Rattle.bits.specs.Byte.{isWaiting}
 use Rattle.search.proofs.Order.{candidate-lt}
 use Rattle.search.specs.Candidate.{exists, channelOf}
 use Rattle.refusal.proofs.Numbers.{accepted-is}
+use Rattle.refusal.specs.Numbers.{isAccepted}
 use Rattle.refusal.specs.declared.Verdict.the-variants.{Accepted}
 use Rattle.chip.specs.Status.{isArmed, isPolled, isRotating, candidateOf, statusByte}
 use Rattle.chip.specs.declared.Chip.{Chip}
-use Rattle.chain.proofs.Passed.{passed-sound, passed-names}
+use Rattle.decide.proofs.Passed.{passed-names}
+use Rattle.decide.proofs.Rules.{changes}
+use Rattle.decide.specs.Decided.{decided}
+use Rattle.chain.proofs.Passed.{passed-sound, passed-tests}
 use Rattle.refusal.specs.Answers.{handed}
-use Rattle.chain.specs.Views.{tabled, tableOf, pictureOf, viewVerdict, tableOr, pictureOr, registerView, pinView}
-use Rattle.chain.specs.Events.{answerOf, changed, accepted, judged, eventOf}
+use Rattle.views.specs.Views.{tableOf, pictureOf, noTable, noPicture, viewVerdict, registerView, pinView}
+use Rattle.chain.specs.Apply.{decision, answerOf, changed, counted}
+use Rattle.chain.specs.Events.{accepted, judged, eventOf}
+use Rattle.chain.specs.Seen.{seenAt, seenBy}
 use Rattle.chain.specs.Fields.{chipAt}
 use Rattle.chain.specs.Refusals.{verdictOf}
 use Rattle.chain.specs.Sound.{sound}
@@ -26,9 +32,7 @@ use Rattle.chain.specs.declared.Chain.{Chain}
 use Rattle.event.specs.declared.Event.{Event}
 use Rattle.event.specs.declared.Event.the-variants.{Status}
 use Rattle.chain.specs.declared.Outcome.{Outcome}
-use Rattle.chain.specs.declared.PinView.the-variants.{Picture}
-use Rattle.chain.specs.declared.RegisterView.{RegisterView}
-use Rattle.chain.specs.declared.RegisterView.the-variants.{Table}
+use Rattle.views.specs.declared.RegisterView.{RegisterView}
 use Rattle.demands.specs.Along.{accepts}
 use Rattle.demands.specs.Rules.{StatusBits, ByTheRules}
 use Rattle.demands.proofs.Kept.{events-keep}
@@ -37,21 +41,30 @@ use Rattle.demands.proofs.Kept.{events-keep}
 verdict-accepted : (e : Event) (s : Chain) → accepts e s ≡ true → verdictOf e s ≡ Accepted
 verdict-accepted e s h = accepted-is (verdictOf e s) (sym (events-keep .zero-is-accepted e s) ∙ h)
 
-by-its-rule : (e : Event) (s : Chain) → accepts e s ≡ true → eventOf e s ≡ accepted (answerOf e s) (changed e s)
-unfolding eventOf judged
+by-its-rule : (e : Event) (s : Chain) → accepts e s ≡ true → eventOf e s ≡ record { answer = answerOf e s; chain = counted (changed e s) }
+unfolding eventOf judged accepted changed
 by-its-rule e s h = ap (λ v. judged v e s) (verdict-accepted e s h)
 
 -- a view of a chip in the count of a sound chain is not refused
 view-accepted : (s : Chain) (chip : ℕ) → sound s ≡ true → chip < s .count → viewVerdict chip s ≡ Accepted
 view-accepted s chip e h = simp (e, lt-leb (s .count) chip h)
 
-table-given : (s : Chain) (chip : ℕ) → sound s ≡ true → chip < s .count → registerView chip s ≡ Table (tableOf chip s)
-unfolding registerView tableOr
-table-given s chip e h = ap (λ v. tableOr v (tableOf chip s)) (view-accepted s chip e h)
+table-given : (s : Chain) (chip : ℕ) → sound s ≡ true → chip < s .count → registerView chip s ≡ record { verdict = Accepted; table = tableOf chip s }
+unfolding registerView
+table-given s chip e h = simp (view-accepted s chip e h)
 
-picture-given : (s : Chain) (chip : ℕ) → sound s ≡ true → chip < s .count → pinView chip s ≡ Picture (pictureOf chip s)
-unfolding pinView pictureOr
-picture-given s chip e h = ap (λ v. pictureOr v (pictureOf chip s)) (view-accepted s chip e h)
+picture-given : (s : Chain) (chip : ℕ) → sound s ≡ true → chip < s .count → pinView chip s ≡ record { verdict = Accepted; picture = pictureOf chip s }
+unfolding pinView
+picture-given s chip e h = simp (view-accepted s chip e h)
+
+-- one that is refused shows nothing
+pub no-table : (s : Chain) (chip : ℕ) → isAccepted (registerView chip s .verdict) ≡ false → registerView chip s .table ≡ noTable
+unfolding registerView
+no-table s chip off = simp off
+
+pub no-picture : (s : Chain) (chip : ℕ) → isAccepted (pinView chip s .verdict) ≡ false → pinView chip s .picture ≡ noPicture
+unfolding pinView
+no-picture s chip off = simp off
 
 -- the digits of a status byte
 record Digits (channel a p r e x : ℕ) (status : ℕ) : Type 0 where
@@ -90,12 +103,12 @@ status-bits c ei =
 
 -- a status read and the table take the same byte
 read-byte : (s : Chain) (chip : ℕ) → accepts (Status chip) s ≡ true
-    → handed (eventOf (Status chip) s .answer) .byte ≡ tabled (registerView chip s) .registers .status
-unfolding accepted
+    → handed (eventOf (Status chip) s .answer) .byte ≡ registerView chip s .table .status
+unfolding changes decision decided seenAt
 read-byte s chip h =
     let v : verdictOf (Status chip) s ≡ Accepted = verdict-accepted (Status chip) s h in
     ap (λ (o : Outcome). handed (o .answer) .byte) (by-its-rule (Status chip) s h)
-    ∙ sym (ap (λ (r : RegisterView). tabled r .registers .status) (table-given s chip (passed-sound (Status chip) s v) (ltb-true _ _ (passed-names (Status chip) s v))))
+    ∙ sym (ap (λ (r : RegisterView). r .table .status) (table-given s chip (passed-sound (Status chip) s v) (passed-names (Status chip) (seenBy (Status chip) s) refl (passed-tests (Status chip) s v))))
 
 -- a count below eight, written out
 eight : (f : ℕ → Bool) → howMany 8 f ≡ digit (f 0) + digit (f 1) + digit (f 2) + digit (f 3) + digit (f 4) + digit (f 5) + digit (f 6) + digit (f 7)

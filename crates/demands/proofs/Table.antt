@@ -19,26 +19,24 @@ use Rattle.refusal.specs.declared.Verdict.{Verdict}
 use Rattle.refusal.specs.declared.Verdict.the-variants.{Accepted}
 use Rattle.bits.proofs.Below.{either}
 use Rattle.refusal.specs.Answers.{verdictIn, handed}
-use Rattle.chain.specs.Views.{tabled, pictured, tableOf, pictureOf, viewVerdict, tableOr, pictureOr, registerView, pinView}
 use Rattle.chain.specs.Events.{accepted, refused, judged, eventOf}
-use Rattle.chain.specs.Refusals.{notSound, noSuchChip, checks, verdictOf}
+use Rattle.decide.specs.Refusals.{noSuchChip, checks}
+use Rattle.chain.specs.Refusals.{notSound, verdictOf}
+use Rattle.chain.specs.Seen.{seenAt, seenBy}
+use Rattle.views.specs.Views.{registerView, pinView}
 use Rattle.chain.specs.Sound.{countSound}
 use Rattle.chain.specs.Start.{startOf}
-use Rattle.refusal.specs.declared.Answer.{Answer}
-use Rattle.refusal.specs.declared.Answer.the-variants.{Done, Byte}
 use Rattle.chain.specs.declared.Chain.{Chain}
 use Rattle.event.specs.declared.Event.{Event}
 use Rattle.event.specs.declared.Event.the-variants.{Command, Data, Status, Read, Line, Enable, Fall, Rise}
 use Rattle.chain.specs.declared.Outcome.{Outcome}
-use Rattle.chain.specs.declared.Pins.{Pins}
-use Rattle.chain.specs.declared.Registers.{Registers}
 use Rattle.run.proofs.Before.{refused-before, none-before}
 use Rattle.run.proofs.Steps.{goes-on, stops}
 use Rattle.event.specs.Numbers.{listed, numbered, inNumbers}
 use Rattle.run.specs.List.{listedAt}
 use Rattle.run.specs.Run.{Report, listLength, brokenEvent, shortResults, beforeAny, listedOutcome, noted, stopped, runFrom, runOf}
 use Rattle.demands.specs.Table.{Entry, given, eventEntries, runEntries, listedEntries, lastEntries, ByTheTable}
-use Rattle.demands.proofs.Kept.{answers-zero}
+use Rattle.demands.proofs.Kept.{answer-number, answers-zero}
 
 -- tests, each with its refusal, as entries of the table
 abbrev pub entries : List (Bool × Refusal) → List Entry
@@ -56,7 +54,8 @@ unfolding judged accepted refused
 judged-number (Verdict.Refused why) e s = refl
 judged-number Accepted e s = answers-zero e s
 
-verdict-given : (e : Event) (s : Chain) → given (entries (notSound s ∷ checks e s)) ≡ given (eventEntries (inNumbers e) s)
+verdict-given : (e : Event) (s : Chain) → given (entries (notSound s ∷ checks e (seenBy e s))) ≡ given (eventEntries (inNumbers e) s)
+unfolding seenAt
 verdict-given (Command i code) s = refl
 verdict-given (Data i byte) s = refl
 verdict-given (Status i) s = refl
@@ -68,7 +67,7 @@ verdict-given Rise s = refl
 
 event-number : (e : Event) (s : Chain) → handed (eventOf e s .answer) .number ≡ given (eventEntries (inNumbers e) s)
 unfolding eventOf verdictOf
-event-number e s = judged-number (verdictOf e s) e s ∙ first-given (notSound s ∷ checks e s) ∙ verdict-given e s
+event-number e s = judged-number (verdictOf e s) e s ∙ first-given (notSound s ∷ checks e (seenBy e s)) ∙ verdict-given e s
 
 -- a start
 start-number : (count fill : ℕ) → handed (startOf count fill .answer) .number ≡ given ((1, not (countSound count)) ∷ [])
@@ -77,17 +76,6 @@ start-number count fill =
     either (λ (o : Outcome). handed (o .answer) .number ≡ given ((1, not (countSound count)) ∷ [])) (countSound count) _ _
     (λ within. rw within refl)
     (λ outside. rw outside refl)
-
--- the views
-table-number : (v : Verdict) (r : Registers) → tabled (tableOr v r) .number ≡ verdictNumber v
-unfolding tableOr
-table-number Accepted r = refl
-table-number (Verdict.Refused why) r = refl
-
-picture-number : (v : Verdict) (p : Pins) → pictured (pictureOr v p) .number ≡ verdictNumber v
-unfolding pictureOr
-picture-number Accepted p = refl
-picture-number (Verdict.Refused why) p = refl
 
 -- a run: the tests before any event decide, or what is left to the event where it ended
 decided : (l : List (Bool × Refusal)) (rest : List Entry) → isAccepted (firstOf l) ≡ false → given (entries l ++ rest) ≡ verdictNumber (firstOf l)
@@ -99,11 +87,6 @@ left-over : (l : List (Bool × Refusal)) (rest : List Entry) → isAccepted (fir
 left-over [] rest e = refl
 left-over ((true, why) ∷ l) rest e = not-both e
 left-over ((false, why) ∷ l) rest e = left-over l rest e
-
-answer-number : (a : Answer) → verdictNumber (verdictIn a) ≡ handed a .number
-answer-number Done = refl
-answer-number (Byte b) = refl
-answer-number (Answer.Refused why) = refl
 
 -- four bytes of a list: one of the eight events, whatever stands in the bytes that it does not use, or a kind outside 1 to 8
 abbrev Told : ℕ → ℕ → ℕ → ℕ → Chain → Type 0
@@ -219,8 +202,8 @@ by-the-table =
     record {
       start = start-number;
       event = event-number;
-      register-view = λ chip s. table-number (viewVerdict chip s) (tableOf chip s) ∙ first-given (notSound s ∷ noSuchChip chip s ∷ []);
-      pin-view = λ chip s. picture-number (viewVerdict chip s) (pictureOf chip s) ∙ first-given (notSound s ∷ noSuchChip chip s ∷ []);
+      register-view = λ chip s. first-given (notSound s ∷ noSuchChip (s .count) chip ∷ []);
+      pin-view = λ chip s. first-given (notSound s ∷ noSuchChip (s .count) chip ∷ []);
       run = run-number;
       search = search-number;
     }

@@ -1,17 +1,16 @@
 -- What a refusal leaves as it was, proved: for an event, a start and the views by the verdict, for a run event by event.
 -- Assumes nothing.
-use mathlib.Core.Bool.{true}
+use mathlib.Core.Bool.{true, false}
 use mathlib.Core.List.{List}
 use mathlib.Core.Path.{_≡_, refl, ap, sym, _∙_}
 use Prim.Native.Nat.{ℕ, _+_, _*_, _≤_, min}
 use native.Mathlib.Omega.{arith}
 use lib.ListN.{getD, length}
-use Rattle.refusal.specs.Numbers.{isAccepted}
+use Rattle.refusal.specs.Numbers.{verdictNumber, isAccepted}
 use Rattle.refusal.specs.declared.Verdict.{Verdict}
 use Rattle.refusal.specs.declared.Verdict.the-variants.{Accepted, Refused}
 use Rattle.bits.proofs.Below.{either}
 use Rattle.refusal.specs.Answers.{Handed, handed}
-use Rattle.chain.specs.Views.{tabled, pictured, tableOf, pictureOf, viewVerdict, tableOr, pictureOr, registerView, pinView}
 use Rattle.chain.specs.Events.{accepted, refused, judged, eventOf}
 use Rattle.chain.specs.Fields.{zeroChain}
 use Rattle.chain.specs.Refusals.{verdictOf}
@@ -20,8 +19,7 @@ use Rattle.chain.specs.Start.{startOf}
 use Rattle.chain.specs.declared.Chain.{Chain}
 use Rattle.event.specs.declared.Event.{Event}
 use Rattle.chain.specs.declared.Outcome.{Outcome}
-use Rattle.chain.specs.declared.Pins.{Pins}
-use Rattle.chain.specs.declared.Registers.{Registers}
+use Rattle.views.specs.Views.{registerView, pinView}
 use Rattle.run.proofs.Before as before-any
 use Rattle.run.proofs.Count.{no-more}
 use Rattle.run.proofs.Steps.{goes-on, noted-length, run-through}
@@ -30,6 +28,7 @@ use Rattle.run.specs.Run.{Report, listLength, beforeAny, listedOutcome, noted, 
 use Rattle.demands.specs.Unchanged.{unrefused, Unchanged}
 use Rattle.demands.proofs.Kept.{answers-zero}
 use Rattle.demands.proofs.Performed.{noted-other, none-left}
+use Rattle.demands.proofs.Rules.{no-table, no-picture}
 use Rattle.demands.proofs.Runs.{whole, counted}
 
 -- an event
@@ -52,18 +51,10 @@ no-start count fill =
     (λ within other. absurd (other refl))
     (λ outside other. refl)
 
--- a view
-no-table : (v : Verdict) (r : Registers) → (tabled (tableOr v r) .number ≡ 0 → ⊥)
-    → tabled (tableOr v r) .registers ≡ record { event = 0; irr = 0; isr = 0; imr = 0; acr = 0; mode = 0; status = 0; waiting = 0 }
-unfolding tableOr
-no-table (Refused why) r other = refl
-no-table Accepted r other = absurd (other refl)
-
-no-picture : (v : Verdict) (p : Pins) → (pictured (pictureOr v p) .number ≡ 0 → ⊥)
-    → pictured (pictureOr v p) .pins ≡ record { event = 0; ei = 0; eo = 0; gint = 0; rip = 0; pause = 0; iack = 0 }
-unfolding pictureOr
-no-picture (Refused why) p other = refl
-no-picture Accepted p other = absurd (other refl)
+-- a view: it is refused where its number is not 0
+is-refused : (v : Verdict) → (verdictNumber v ≡ 0 → ⊥) → isAccepted v ≡ false
+is-refused (Refused why) other = refl
+is-refused Accepted other = absurd (other refl)
 
 -- a run
 from-length : (bytes : List ℕ) (left n : ℕ) (s : Chain) (results : List ℕ) → length (runFrom left bytes n s results .results) ≡ length results
@@ -103,14 +94,14 @@ kept s bytes limit results h =
     ∙ ap unrefused (sym is)
 
 pub unchanged : Unchanged
-unfolding eventOf registerView pinView
+unfolding eventOf
 unchanged =
     record {
       chain-as-given = λ e s other. as-given (verdictOf e s) e s other;
       no-byte = λ e s other. no-byte (verdictOf e s) e s other;
       no-start = no-start;
-      no-table = λ chip s other. no-table (viewVerdict chip s) (tableOf chip s) other;
-      no-picture = λ chip s other. no-picture (viewVerdict chip s) (pictureOf chip s) other;
+      no-table = λ chip s other. no-table s chip (is-refused (registerView chip s .verdict) other);
+      no-picture = λ chip s other. no-picture s chip (is-refused (pinView chip s .verdict) other);
       refused-before = λ s bytes limit results h. before-any.refused-before s bytes limit results (beforeAny s bytes results) refl h;
       accepted-kept = kept;
       length-kept = λ s bytes limit results.

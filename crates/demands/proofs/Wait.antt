@@ -3,52 +3,60 @@
 -- Assumes nothing.
 use mathlib.Core.Bool.{Bool, true, false, not, _&&_}
 use mathlib.Core.List.{List, [], _∷_}
-use mathlib.Core.Logic.{⊎-elim}
 use mathlib.Core.Path.{_≡_, refl, ap, sym, subst, _∙_}
 use Prim.Native.Nat.{ℕ, zero, suc, _+_, _≤_, _<_, suc-le-suc}
 use native.Mathlib.Nat.{zero-lt-suc, lt-of-le-of-lt, mod-lt}
 use native.Mathlib.Omega.{arith}
 use lib.Dec.{eqb, lit<}
-use lib.ListN.{getD, set, length}
+use lib.ListN.{getD, length}
 use lib.Seq.{getD-set-same}
 use borrow.Author.Tests.{eqb-true, eqb-false, eq-eqb, not-true, leb-true}
-use Rattle.bits.proofs.Below.{digit-lt, both-left, both-right, every-each}
-use Rattle.bits.proofs.Stored.{stored}
+use Rattle.bits.proofs.Below.{digit-lt, either, both-left, both-right, every-each}
 use Rattle.bits.specs.Below.{digit, every}
 use Rattle.bits.specs.Byte.{bit, isWaiting}
+use Rattle.order.specs.Order.{channelAt}
 use Rattle.search.proofs.Rotating.{placeOf, candidate-at, candidate-exists, waiting-before, waiting-nearer}
 use Rattle.search.specs.Candidate.{candidate, exists}
-use Rattle.search.specs.Order.{lastOf, channelAt, firstWaiting}
+use Rattle.search.specs.Order.{lastOf, firstWaiting}
 use Rattle.refusal.proofs.Numbers.{not-both, accepted-is}
 use Rattle.refusal.specs.Numbers.{isAccepted}
-use Rattle.refusal.specs.declared.Verdict.{Verdict}
-use Rattle.refusal.specs.declared.Verdict.the-variants.{Accepted, Refused}
+use Rattle.refusal.specs.declared.Verdict.the-variants.{Accepted}
+use Rattle.event.proofs.Told.{is-fall}
+use Rattle.event.specs.Numbers.{isFall}
+use Rattle.event.specs.declared.Event.{Event}
+use Rattle.event.specs.declared.Event.the-variants.{Fall, Rise}
 use Rattle.chip.proofs.Pointer.{answered-pointer, commanded-pointer, written-pointer, line-pointer, finished-pointer}
 use Rattle.chip.proofs.Soundness.{pointer-sound}
-use Rattle.chip.specs.Fields.{noChip}
+use Rattle.chip.specs.Fields.{zeroChip}
 use Rattle.chip.specs.Figure4.{isReset}
 use Rattle.chip.specs.Status.{isArmed, isPolled, isRotating, candidateOf, gintActive}
 use Rattle.chip.specs.declared.Chip.{Chip}
+use Rattle.response.specs.Held.{replyOf, isIdle, isResponding}
+use Rattle.response.specs.declared.Reply.{Reply}
+use Rattle.response.specs.declared.Response.{Response}
+use Rattle.response.specs.declared.Response.the-variants.{Idle, UnderWay}
+use Rattle.decide.proofs.Rules.{changes}
+use Rattle.decide.proofs.Soundness.{selected-is}
+use Rattle.decide.specs.Decided.{decided}
+use Rattle.decide.specs.Look.{respondingOr}
+use Rattle.decide.specs.Pulse.{driving, firstPulse, fallen}
+use Rattle.decide.specs.declared.Change.{Change}
+use Rattle.decide.specs.declared.Look.the-variants.{Answering}
 use Rattle.chain.proofs.Acknowledge.{Answers, selected-answers, ei-high, reached-selected}
-use Rattle.chain.proofs.Rules.{chainFields}
+use Rattle.chain.proofs.Rules.{chainFields, applying}
 use Rattle.chain.proofs.Soundness.{chip-sound}
-use Rattle.chain.specs.Events.{changed, counted, accepted, refused, judged, eventOf}
+use Rattle.chain.specs.Apply.{replacedIn, applied, decision, counted}
+use Rattle.chain.specs.Events.{accepted, judged, eventOf}
 use Rattle.chain.specs.Fields.{chipAt}
-use Rattle.chain.specs.Pins.{isIdle, isResponding}
-use Rattle.chain.specs.Pulse.{replyOf, selected, firstPulse, fallen, risenAfter, risen}
 use Rattle.chain.specs.Refusals.{verdictOf}
+use Rattle.chain.specs.Seen.{seenAt, seenIn, seenBy, selected}
 use Rattle.chain.specs.Sound.{sound}
+use Rattle.chain.specs.Walk.{answeringChip}
 use Rattle.chain.specs.declared.Chain.{Chain}
-use Rattle.event.specs.declared.Event.{Event}
-use Rattle.event.specs.declared.Event.the-variants.{Command, Data, Status, Read, Line, Enable, Fall, Rise}
-use Rattle.chain.specs.declared.Reply.{Reply}
-use Rattle.chain.specs.declared.Response.{Response}
-use Rattle.chain.specs.declared.Response.the-variants.{Idle, UnderWay}
-use Rattle.event.proofs.Told.{is-fall}
-use Rattle.event.specs.Numbers.{isFall}
 use Rattle.demands.specs.Kept.{replaces}
 use Rattle.demands.specs.Wait.{waits, isFirstPulse, isFor, isForAnother, answersIt, answersAnother, resets, reaches, isCounted}
-use Rattle.demands.proofs.Kept.{events-keep}
+use Rattle.demands.proofs.Kept.{applied-there, first-there, left}
+use Rattle.demands.proofs.Puts.{Ways, puts}
 
 -- what a waiting request says of its chip
 record Waiting (c : Chip) (channel : ℕ) : Type 0 where
@@ -72,28 +80,6 @@ waiting-parts c channel e =
 abbrev pub pointerAt : Chain → ℕ → ℕ
 pointerAt s i = chipAt s i .pointer
 
--- a chip with the same pointer put in a chip's place
-same-pointer : (l : List Chip) (i : ℕ) (c : Chip) → c .pointer ≡ getD l i noChip .pointer → getD (set l i c) i noChip .pointer ≡ getD l i noChip .pointer
-same-pointer l i c is =
-    ⊎-elim (λ new. ap (λ (c : Chip). c .pointer) new ∙ is) (λ old. ap (λ (c : Chip). c .pointer) old) (stored l i i c noChip)
-
--- a rise leaves the pointer of the chip that responds
-rise-pointer : (last : Bool) (r : Reply) (s : Chain) → pointerAt (risenAfter last r s) (r .chip) ≡ pointerAt s (r .chip)
-unfolding chainFields risenAfter
-rise-pointer true r s = same-pointer (s .chips) (r .chip) _ (finished-pointer (r .channel) (chipAt s (r .chip)))
-rise-pointer false r s = refl
-
-risen-pointer : (response : Response) (s : Chain) (i : ℕ) → isResponding response i ≡ true → pointerAt (risen response s) i ≡ pointerAt s i
-unfolding risen
-risen-pointer Idle s i e = not-both e
-risen-pointer (UnderWay r) s i e =
-    subst (λ (k : ℕ). pointerAt (risenAfter (eqb (r .delivered) (r .length)) r s) k ≡ pointerAt s k) (eqb-true (r .chip) i e) (rise-pointer _ r s)
-
--- so does whatever else changes chip i: a command that does not reset it, a data write, a line
-put-pointer : (l : List Chip) (j i : ℕ) (c : Chip) → eqb j i ≡ true → c .pointer ≡ getD l j noChip .pointer → getD (set l j c) i noChip .pointer ≡ getD l i noChip .pointer
-put-pointer l j i c e is =
-    subst (λ (k : ℕ). getD (set l j c) k noChip .pointer ≡ getD l k noChip .pointer) (eqb-true j i e) (same-pointer l j c is)
-
 middle-false : (a x b : Bool) → a ≡ true → b ≡ true → a && x && b ≡ false → x ≡ false
 middle-false true true true ea eb e = e
 middle-false true false true ea eb e = refl
@@ -104,44 +90,44 @@ last-false : (a b : Bool) → a ≡ true → a && b ≡ false → b ≡ false
 last-false true b ea e = e
 last-false false b ea e = not-both ea
 
-changed-pointer : (e : Event) (s : Chain) (i : ℕ) → verdictOf e s ≡ Accepted → resets i e s ≡ false → isFirstPulse e s && isResponding (selected s) i ≡ false
-    → replaces e s i ≡ true
-    → pointerAt (changed e s) i ≡ pointerAt s i
-unfolding chainFields changed
-changed-pointer (Command j code) s i v none quiet here =
-    put-pointer (s .chips) j i _ here
-    (commanded-pointer code (chipAt s j) (middle-false (eqb j i) (isReset code) _ here (ap isAccepted v) none))
-changed-pointer (Data j byte) s i v none quiet here = put-pointer (s .chips) j i _ here (written-pointer (chipAt s j .destination) byte (chipAt s j))
-changed-pointer (Status j) s i v none quiet here = not-both here
-changed-pointer (Read j) s i v none quiet here = not-both here
-changed-pointer (Line j channel level) s i v none quiet here = put-pointer (s .chips) j i _ here (line-pointer channel (eqb level 1) (chipAt s j))
-changed-pointer (Enable level) s i v none quiet here = not-both here
-changed-pointer Fall s i v none quiet here = not-both (sym (first-answered (isAccepted (verdictOf Fall s)) (isIdle (s .response)) _ (ap isAccepted v) quiet) ∙ here)
-  where
-    first-answered : (ok idle responding : Bool) → ok ≡ true → ok && idle && responding ≡ false → idle && responding ≡ false
-    first-answered true idle responding e quiet = quiet
-    first-answered false idle responding e quiet = not-both e
-changed-pointer Rise s i v none quiet here = risen-pointer (s .response) s i here
+-- what is put in the place of chip i has its pointer
+module _ (s : Chain) (i : ℕ) where
+  abbrev Same : Event → Chip → Type 0
+  Same e c =
+      verdictOf e s ≡ Accepted → resets i e s ≡ false → isFirstPulse e s && isResponding (selected s) i ≡ false → seenBy e s .at ≡ i → c .pointer ≡ pointerAt s i
 
-judged-pointer : (v : Verdict) (e : Event) (s : Chain) (i : ℕ) → verdictOf e s ≡ v → resets i e s ≡ false → isFirstPulse e s && isResponding (selected s) i ≡ false
-    → replaces e s i ≡ true
-    → pointerAt (judged v e s .chain) i ≡ pointerAt s i
-unfolding chainFields judged accepted refused counted
-judged-pointer (Refused why) e s i is none quiet here = refl
-judged-pointer Accepted e s i is none quiet here = changed-pointer e s i is none quiet here
+  first-answered : (ok idle responding : Bool) → ok ≡ true → ok && idle && responding ≡ false → idle && responding ≡ false
+  first-answered true idle responding e quiet = quiet
+  first-answered false idle responding e quiet = not-both e
+
+  ways : Ways (λ e. seenBy e s) Same
+  unfolding seenAt
+  ways =
+      record {
+        command = λ j code ok none quiet is.
+            commanded-pointer code (chipAt s j) (middle-false (eqb j i) (isReset code) _ (eq-eqb j i is) (ap isAccepted ok) none) ∙ ap (pointerAt s) is;
+        data-write = λ j byte ok none quiet is. written-pointer (chipAt s j .destination) byte (chipAt s j) ∙ ap (pointerAt s) is;
+        line = λ j channel level ok none quiet is. line-pointer channel (eqb level 1) (chipAt s j) ∙ ap (pointerAt s) is;
+        first-pulse = λ r idle found ok none quiet is.
+            not-both
+            (sym (first-answered (isAccepted (verdictOf Fall s)) (isIdle (s .response)) _ (ap isAccepted ok) quiet)
+            ∙ subst (λ (k : ℕ). replaces Fall s k ≡ true) is (first-there s r idle found));
+        last-rise = λ r under ok none quiet is. finished-pointer (r .channel) (seenBy Rise s .chip) ∙ ap (pointerAt s) is;
+      }
 
 -- every event but a reset and a first pulse that the chip answers leaves its pointer
 quiet-step : (e : Event) (s : Chain) (i : ℕ) → resets i e s ≡ false → isFirstPulse e s && isResponding (selected s) i ≡ false
     → pointerAt (eventOf e s .chain) i ≡ pointerAt s i
-unfolding eventOf
-quiet-step e s i none quiet = by (replaces e s i) refl
-  where
-    by : (here : Bool) → replaces e s i ≡ here → pointerAt (eventOf e s .chain) i ≡ pointerAt s i
-    by true here = judged-pointer (verdictOf e s) e s i refl none quiet here
-    by false elsewhere = ap (λ (c : Chip). c .pointer) (events-keep .others-unchanged e s i elsewhere)
+unfolding eventOf chainFields counted decision
+quiet-step e s i none quiet =
+    left (λ t. pointerAt t i ≡ pointerAt s i) (verdictOf e s) e s refl
+    (λ ok. applied-there (λ (c : Chip). c .pointer ≡ pointerAt s i) (decision e s) s i
+    (λ put is. let there = puts (λ e. seenBy e s) (Same s i) (ways s i) e put in there .1 ok none quiet (sym (there .0) ∙ is))
+    refl)
 
 -- after a first pulse the pointer of the chip that answers is the channel
-in-list : (l : List Chip) (i : ℕ) → isArmed (getD l i noChip) ≡ true → i < length l
+in-list : (l : List Chip) (i : ℕ) → isArmed (getD l i zeroChip) ≡ true → i < length l
+unfolding zeroChip
 in-list [] i e = not-both e
 in-list (c ∷ l) zero e = zero-lt-suc _
 in-list (c ∷ l) (suc i) e = suc-le-suc (in-list l i e)
@@ -150,21 +136,33 @@ idle-is : (response : Response) → isIdle response ≡ true → response ≡ Id
 idle-is Idle e = refl
 idle-is (UnderWay r) e = not-both e
 
-response-pointer : (s : Chain) (r : Reply) → isArmed (chipAt s (r .chip)) ≡ true → pointerAt (firstPulse (UnderWay r) s) (r .chip) ≡ r .channel
-unfolding chainFields firstPulse
-response-pointer s r armed =
-    ap (λ (c : Chip). c .pointer) (getD-set-same (s .chips) (r .chip) _ noChip (in-list (s .chips) (r .chip) armed))
-    ∙ answered-pointer (r .channel) (chipAt s (r .chip))
+-- chip i with another one put there
+put-there : (c : Change) (s : Chain) (i : ℕ) → c .replaces ≡ true → c .at ≡ i → isArmed (chipAt s i) ≡ true → chipAt (applied c s) i ≡ c .chip
+unfolding applying
+put-there c s i put is armed =
+    either (λ (t : Chain). chipAt t i ≡ c .chip) (c .sets) _ _ (λ set. there) (λ none. there)
+  where
+    there : chipAt (replacedIn c s) i ≡ c .chip
+    there = rw put (rw is (getD-set-same (s .chips) i (c .chip) zeroChip (in-list (s .chips) i armed)))
+
+first-pointer : (found : Response) (s : Chain) (r : Reply) → selected s ≡ found → found ≡ UnderWay r → isArmed (chipAt s (r .chip)) ≡ true
+    → pointerAt (applied (firstPulse found (seenIn Answering s)) s) (r .chip) ≡ r .channel
+unfolding changes driving firstPulse selected seenAt
+first-pointer found s r is under armed =
+    let at : r .chip ≡ answeringChip s = ap (λ (r : Reply). r .chip) (selected-is (seenIn Answering s) r (is ∙ under) .1) in
+    subst (λ (found : Response). pointerAt (applied (firstPulse found (seenIn Answering s)) s) (r .chip) ≡ r .channel) (sym under)
+    (ap (λ (c : Chip). c .pointer) (put-there (firstPulse (UnderWay r) (seenIn Answering s)) s (r .chip) refl (sym at) armed)
+    ∙ answered-pointer (r .channel) _)
 
 answer-pointer : (s : Chain) (r : Reply) → verdictOf Fall s ≡ Accepted → isIdle (s .response) ≡ true → selected s ≡ UnderWay r
     → isArmed (chipAt s (r .chip)) ≡ true
     → pointerAt (eventOf Fall s .chain) (r .chip) ≡ r .channel
-unfolding chainFields eventOf judged accepted counted changed fallen
+unfolding chainFields eventOf judged accepted counted decision decided fallen selected seenAt
 answer-pointer s r v idle is armed =
     subst (λ v. pointerAt (judged v Fall s .chain) (r .chip) ≡ r .channel) (sym v)
-    (subst (λ response. pointerAt (fallen response s) (r .chip) ≡ r .channel) (sym (idle-is (s .response) idle))
-    (subst (λ found. pointerAt (firstPulse found s) (r .chip) ≡ r .channel) (sym is)
-    (response-pointer s r armed)))
+    (subst (λ response. pointerAt (applied (fallen response (seenIn (respondingOr Answering response) s)) s) (r .chip) ≡ r .channel)
+    (sym (idle-is (s .response) idle))
+    (first-pointer (selected s) s r refl is armed))
 
 -- for another channel than the one that waits, it brings that one nearer
 rotating-last : (mode pointer : ℕ) → bit mode 0 ≡ true → lastOf mode pointer ≡ pointer

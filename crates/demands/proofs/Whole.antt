@@ -3,18 +3,22 @@
 use mathlib.Core.Bool.{Bool, true, false}
 use mathlib.Core.List.{List}
 use mathlib.Core.Path.{_≡_, refl, ap, sym, subst, _∙_}
-use Prim.Native.Nat.{ℕ, min}
-use lib.Dec.{eqb}
+use Prim.Native.Nat.{ℕ, _≤_, min}
+use lib.Dec.{eqb, ltb}
 use lib.ListN.{getD, length, replicate, length-set, getD-replicate}
+use borrow.Author.Tests.{ltb-true, ltb-false}
 use Rattle.bits.proofs.Below.{either}
+use Rattle.bits.proofs.Stored.{getD-past}
 use Rattle.bits.specs.Byte.{bit}
 use Rattle.refusal.specs.declared.Verdict.{Verdict}
-use Rattle.refusal.specs.declared.Verdict.the-variants.{Accepted, Refused}
+use Rattle.event.specs.declared.Event.{Event}
+use Rattle.event.specs.declared.Listed.{Listed}
+use Rattle.event.specs.declared.Listed.the-variants.{Known, Unknown}
 use Rattle.chip.proofs.Rules.{chipFields}
 use Rattle.chip.specs.Acknowledge.{answered, finished}
 use Rattle.chip.specs.Command.{obey, commanded}
-use Rattle.chip.specs.Data.{written}
-use Rattle.chip.specs.Fields.{noChip, zeroChip}
+use Rattle.chip.specs.Data.{dataWritten}
+use Rattle.chip.specs.Fields.{zeroChip}
 use Rattle.chip.specs.Figure4.{figure4}
 use Rattle.chip.specs.Line.{lineSet}
 use Rattle.chip.specs.Reset.{reset, powerUp}
@@ -25,27 +29,25 @@ use Rattle.chip.specs.declared.Destination.{Destination}
 use Rattle.chip.specs.declared.Destination.the-variants.{Nowhere, Imr, Acr, Level}
 use Rattle.chip.specs.declared.Meaning.{Meaning}
 use Rattle.chip.specs.declared.Meaning.the-variants.{Row, Undefined}
+use Rattle.decide.specs.Decided.{decided}
+use Rattle.decide.specs.declared.Seen.{Seen}
+use Rattle.chain.proofs.Kept.{applied-chips}
 use Rattle.chain.proofs.Rules.{chainFields}
-use Rattle.chain.specs.Events.{changed, counted, accepted, refused, judged, eventOf}
-use Rattle.chain.specs.Fields.{chipAt, withChip}
-use Rattle.chain.specs.Pulse.{selected, firstPulse, fallen, risenAfter, risen}
+use Rattle.chain.specs.Apply.{decision, counted}
+use Rattle.chain.specs.Events.{judged, eventOf}
+use Rattle.chain.specs.Fields.{chipAt}
 use Rattle.chain.specs.Refusals.{verdictOf}
+use Rattle.chain.specs.Seen.{seenAt, seenBy}
 use Rattle.chain.specs.Sound.{countSound}
 use Rattle.chain.specs.Start.{started, startOf}
 use Rattle.chain.specs.declared.Chain.{Chain}
-use Rattle.event.specs.declared.Event.{Event}
-use Rattle.event.specs.declared.Event.the-variants as event
 use Rattle.chain.specs.declared.Outcome.{Outcome}
-use Rattle.chain.specs.declared.Reply.{Reply}
-use Rattle.chain.specs.declared.Response.{Response}
-use Rattle.chain.specs.declared.Response.the-variants.{Idle, UnderWay}
 use Rattle.run.proofs.Steps.{run-through}
 use Rattle.run.specs.List.{listedAt}
 use Rattle.run.specs.Run.{listLength, listedOutcome, runFrom, runOf}
-use Rattle.event.specs.declared.Listed.{Listed}
-use Rattle.event.specs.declared.Listed.the-variants.{Known, Unknown}
-use Rattle.image.proofs.Whole.{same-chips, whole-with}
 use Rattle.image.specs.OneToOne.{WholeChip, Whole}
+use Rattle.demands.proofs.Kept.{left, records}
+use Rattle.demands.proofs.Puts.{puts}
 use Rattle.demands.proofs.Runs as runs
 
 -- one chip is as large as another
@@ -83,10 +85,10 @@ obeyed (PreselectLevel count level) c = record { counts = length-set (c .counts)
 commanded-as : (meaning : Meaning) (code : ℕ) (c : Chip) → AsLarge c (commanded meaning code c)
 unfolding chipFields commanded
 commanded-as (Row row) code c = let o = obeyed row _ in record { counts = o .counts; memory = o .memory }
-commanded-as Undefined code c = record { counts = refl; memory = refl }
+commanded-as (Undefined kind) code c = record { counts = refl; memory = refl }
 
-written-as : (d : Destination) (byte : ℕ) (c : Chip) → AsLarge c (written d byte c)
-unfolding chipFields written
+written-as : (d : Destination) (byte : ℕ) (c : Chip) → AsLarge c (dataWritten d byte c)
+unfolding chipFields dataWritten
 written-as Nowhere byte c = record { counts = refl; memory = refl }
 written-as Imr byte c = record { counts = refl; memory = refl }
 written-as Acr byte c = record { counts = refl; memory = refl }
@@ -105,48 +107,45 @@ unfolding chipFields finished
 finished-as channel c =
     either (AsLarge c) (bit (c .acr) channel) _ _ (λ auto. record { counts = refl; memory = refl }) (λ not-auto. record { counts = refl; memory = refl })
 
--- a chain with one chip replaced by one as large
-with-chip : (i : ℕ) (c : Chip) (s : Chain) → AsLarge (chipAt s i) c → Whole s → Whole (withChip i c s)
-with-chip i c s large w = whole-with i c s (λ below. whole-as (chipAt s i) c large (w .whole-chips i below)) w
+-- the chip that is put in a chip's place is as large as the one that is seen there
+decided-large : (e : Event) (v : Seen) → decided e v .replaces ≡ true → AsLarge (v .chip) (decided e v .chip)
+decided-large e v put =
+    puts (λ e. v) (λ e c. AsLarge (v .chip) c)
+    (record {
+      command = λ i code. commanded-as (figure4 code) code (v .chip);
+      data-write = λ i byte. written-as (v .chip .destination) byte (v .chip);
+      line = λ i channel level. line-as channel (eqb level 1) (v .chip);
+      first-pulse = λ r idle found. answered-as (r .channel) (v .chip);
+      last-rise = λ r under. finished-as (r .channel) (v .chip);
+    })
+    e put
+    .1
 
-first-whole : (found : Response) (s : Chain) → Whole s → Whole (firstPulse found s)
-unfolding chainFields firstPulse
-first-whole Idle s w = w
-first-whole (UnderWay r) s w =
-    same-chips (withChip (r .chip) (answered (r .channel) (chipAt s (r .chip))) s) _ refl (with-chip (r .chip) _ s (answered-as (r .channel) (chipAt s (r .chip))) w)
+zero-whole : WholeChip zeroChip
+unfolding zeroChip
+zero-whole = record { eight-codes = refl; all-memory = refl }
 
-fallen-whole : (under-way : Response) (s : Chain) → Whole s → Whole (fallen under-way s)
-unfolding chainFields fallen
-fallen-whole (UnderWay r) s w = same-chips s _ refl w
-fallen-whole Idle s w = first-whole (selected s) s w
-
-after-whole : (last : Bool) (r : Reply) (s : Chain) → Whole s → Whole (risenAfter last r s)
-unfolding chainFields risenAfter
-after-whole true r s w =
-    same-chips (withChip (r .chip) (finished (r .channel) (chipAt s (r .chip))) s) _ refl (with-chip (r .chip) _ s (finished-as (r .channel) (chipAt s (r .chip))) w)
-after-whole false r s w = w
-
-risen-whole : (under-way : Response) (s : Chain) → Whole s → Whole (risen under-way s)
-unfolding risen
-risen-whole Idle s w = w
-risen-whole (UnderWay r) s w = after-whole (eqb (r .delivered) (r .length)) r s w
-
-changed-whole : (e : Event) (s : Chain) → Whole s → Whole (changed e s)
-unfolding chainFields changed
-changed-whole (event.Command i code) s w =
-    same-chips (withChip i (commanded (figure4 code) code (chipAt s i)) s) _ refl (with-chip i _ s (commanded-as (figure4 code) code (chipAt s i)) w)
-changed-whole (event.Data i byte) s w = with-chip i _ s (written-as (chipAt s i .destination) byte (chipAt s i)) w
-changed-whole (event.Status i) s w = w
-changed-whole (event.Read i) s w = w
-changed-whole (event.Line i channel level) s w = with-chip i _ s (line-as channel (eqb level 1) (chipAt s i)) w
-changed-whole (event.Enable level) s w = same-chips s _ refl w
-changed-whole event.Fall s w = same-chips (fallen (s .response) s) _ refl (fallen-whole (s .response) s w)
-changed-whole event.Rise s w = same-chips (risen (s .response) s) _ refl (risen-whole (s .response) s w)
+-- every chip of a whole chain is whole, also what is seen past its records
+each-whole : (s : Chain) (i : ℕ) → Whole s → WholeChip (chipAt s i)
+each-whole s i w = by (ltb i 8) refl
+  where
+    by : (b : Bool) → ltb i 8 ≡ b → WholeChip (chipAt s i)
+    by true below = w .whole-chips i (ltb-true i 8 below)
+    by false past =
+        let most : 8 ≤ i = ltb-false i 8 past in
+        subst WholeChip (sym (getD-past (s .chips) i zeroChip (subst (λ (n : ℕ). n ≤ i) (sym (w .eight-chips)) most))) zero-whole
 
 judged-whole : (v : Verdict) (e : Event) (s : Chain) → Whole s → Whole (judged v e s .chain)
-unfolding chainFields judged accepted refused counted
-judged-whole (Refused why) e s w = w
-judged-whole Accepted e s w = same-chips (changed e s) _ refl (changed-whole e s w)
+unfolding decision seenAt counted chainFields
+judged-whole v e s w =
+    record {
+      eight-chips = records v e s ∙ w .eight-chips;
+      whole-chips = λ k h.
+          left (λ t. WholeChip (chipAt t k)) v e s (w .whole-chips k h)
+          (λ ok. applied-chips WholeChip (decision e s) s k
+          (λ put. whole-as (seenBy e s .chip) _ (decided-large e (seenBy e s) put) (each-whole s _ w))
+          (w .whole-chips k h));
+    }
 
 step-whole : (listed : Listed) (s : Chain) → Whole s → Whole (listedOutcome listed s .chain)
 unfolding eventOf
@@ -168,16 +167,12 @@ eight : (c : Chip) (s : Chain) → s .chips ≡ replicate 8 c → WholeChip c �
 eight c s is w =
     record {
       eight-chips = ap length is;
-      whole-chips = λ i h. subst (λ (l : List Chip). WholeChip (getD l i noChip)) (sym is) (subst WholeChip (sym (getD-replicate 8 i c noChip h)) w);
+      whole-chips = λ i h. subst (λ (l : List Chip). WholeChip (getD l i zeroChip)) (sym is) (subst WholeChip (sym (getD-replicate 8 i c zeroChip h)) w);
     }
 
 power-up-whole : (fill : ℕ) → WholeChip (powerUp fill)
 unfolding chipFields powerUp reset
 power-up-whole fill = record { eight-codes = refl; all-memory = refl }
-
-zero-whole : WholeChip zeroChip
-unfolding zeroChip
-zero-whole = record { eight-codes = refl; all-memory = refl }
 
 -- a start, also a refused one
 pub start-whole : (count fill : ℕ) → Whole (startOf count fill .chain)

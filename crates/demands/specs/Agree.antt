@@ -5,11 +5,11 @@ use Prim.Native.Nat.{ℕ, _<_}
 use lib.Dec.{eqb}
 use Rattle.bits.specs.Below.{digit}
 use Rattle.bits.specs.Byte.{bit}
-use Rattle.chain.specs.Views.{tabled, pictured, registerView, pinView}
+use Rattle.views.specs.Views.{registerView, pinView}
 use Rattle.chain.specs.Sound.{sound}
 use Rattle.chain.specs.declared.Chain.{Chain}
-use Rattle.chain.specs.declared.Pins.{Pins}
-use Rattle.chain.specs.declared.Registers.{Registers}
+use Rattle.views.specs.declared.Pins.{Pins}
+use Rattle.views.specs.declared.Registers.{Registers}
 
 -- GINT is active, read off its pin and M3: 1 with M3 set, 0 with M3 clear
 abbrev pub gintReadsActive : ℕ → ℕ → Bool
@@ -24,6 +24,6 @@ pub record Agree (table : Registers) (picture : Pins) : Type 0 where
 pub record Agreement : Type 0 where
   -- the table and the picture of a chip in the count of a sound chain, so of one to eight chips, agree
   pub agree : (s : Chain) (chip : ℕ) → sound s ≡ true → chip < s .count
-      → Agree (tabled (registerView chip s) .registers) (pictured (pinView chip s) .pins)
+      → Agree (registerView chip s .table) (pinView chip s .picture)
   -- and of no chain is one view given and the other refused
-  pub both-or-neither : (s : Chain) (chip : ℕ) → tabled (registerView chip s) .number ≡ pictured (pinView chip s) .number
+  pub both-or-neither : (s : Chain) (chip : ℕ) → registerView chip s .verdict ≡ pinView chip s .verdict

@@ -4,7 +4,7 @@ use mathlib.Core.List.{List, [], _∷_}
 use Prim.Native.Nat.{ℕ}
 use lib.Dec.{eqb}
 use Rattle.refusal.specs.Answers.{Handed, handed}
-use Rattle.chain.specs.Views.{tabled, pictured, registerView, pinView}
+use Rattle.views.specs.Views.{registerView, pinView}
 use Rattle.chain.specs.Events.{eventOf}
 use Rattle.chain.specs.Start.{startOf}
 use Rattle.chain.specs.declared.Chain.{Chain}
@@ -49,26 +49,26 @@ onBench count fill steps = all steps (startOf count fill .chain)
 
 -- fields of the views of chip i
 abbrev pub gintPinOf : ℕ → Chain → ℕ
-gintPinOf i s = pictured (pinView i s) .pins .gint
+gintPinOf i s = pinView i s .picture .gint
 
 abbrev pub eiPinOf : ℕ → Chain → ℕ
-eiPinOf i s = pictured (pinView i s) .pins .ei
+eiPinOf i s = pinView i s .picture .ei
 
 abbrev pub eoPinOf : ℕ → Chain → ℕ
-eoPinOf i s = pictured (pinView i s) .pins .eo
+eoPinOf i s = pinView i s .picture .eo
 
 -- the chain's pins, in the view of chip 0
 abbrev pub ripPin : Chain → ℕ
-ripPin s = pictured (pinView 0 s) .pins .rip
+ripPin s = pinView 0 s .picture .rip
 
 abbrev pub pausePin : Chain → ℕ
-pausePin s = pictured (pinView 0 s) .pins .pause
+pausePin s = pinView 0 s .picture .pause
 
 abbrev pub irrOf : ℕ → Chain → ℕ
-irrOf i s = tabled (registerView i s) .registers .irr
+irrOf i s = registerView i s .table .irr
 
 abbrev pub isrOf : ℕ → Chain → ℕ
-isrOf i s = tabled (registerView i s) .registers .isr
+isrOf i s = registerView i s .table .isr
 
 abbrev pub imrOf : ℕ → Chain → ℕ
-imrOf i s = tabled (registerView i s) .registers .imr
+imrOf i s = registerView i s .table .imr

@@ -1,7 +1,7 @@
 -- The first demand: no input of a call is without its defined result, what is wrong gets its number, and a refusal changes nothing.
+use Rattle.outcomes.specs.Outcomes.{OneOutcome}
+use Rattle.outcomes.specs.Pages.{OnePage}
 use Rattle.demands.specs.FromC.{FromC}
-use Rattle.demands.specs.Outcomes.{OneOutcome}
-use Rattle.demands.specs.Pages.{OnePage}
 use Rattle.demands.specs.Table.{ByTheTable}
 use Rattle.demands.specs.Unchanged.{Unchanged}
 

@@ -1,5 +1,5 @@
 -- The calls from C over an image of a chain: by the one table of numbers, without a trace where they are refused, and otherwise the model's own calls
--- between reading the image and writing it. That each call hands back and leaves just this is `Outcomes`: `start-call`, `run-call`, `registers-call`, `pins-call`.
+-- between reading the image and writing it. That each call hands back and leaves just this is `outcomes/specs/Outcomes`: `start-call`, `run-call`, `registers-call`, `pins-call`.
 use mathlib.Core.Bool.{Bool, true, false, not, _&&_, _||_}
 use mathlib.Core.List.{List, [], _∷_, _++_}
 use mathlib.Core.Path.{_≡_}
@@ -9,7 +9,7 @@ use lib.ListN.{length, drop}
 use Rattle.bits.specs.Below.{digit}
 use Rattle.bits.specs.Byte.{bit}
 use Rattle.refusal.specs.Numbers.{verdictNumber}
-use Rattle.chain.specs.Views.{tabled, pictured, registerView, pinView}
+use Rattle.views.specs.Views.{registerView, pinView}
 use Rattle.chain.specs.Start.{startOf}
 use Rattle.run.specs.Run.{Report, runOf}
 use Rattle.image.specs.Layout.{imageOf, over}
@@ -87,9 +87,9 @@ pub record AsTheModel : Type 0 where
       × (chainIn (runCall image events limit results accepted .image) ≡ runOf (chainIn image) events limit results .ran .chain)
   -- an accepted view has the bytes of the model's view
   pub registers : (image : List ℕ) (chip : ℕ) (view : List ℕ) → registersCall image chip view .number ≡ 0
-      → registersCall image chip view .buffer ≡ over view 0 (tableBytes (tabled (registerView chip (chainIn image)) .registers))
+      → registersCall image chip view .buffer ≡ over view 0 (tableBytes (registerView chip (chainIn image) .table))
   pub pins : (image : List ℕ) (chip : ℕ) (view : List ℕ) → pinsCall image chip view .number ≡ 0
-      → pinsCall image chip view .buffer ≡ over view 0 (pictureBytes (pictured (pinView chip (chainIn image)) .pins))
+      → pinsCall image chip view .buffer ≡ over view 0 (pictureBytes (pinView chip (chainIn image) .picture))
   -- the table and the picture of a chip of one image agree, byte by byte
   pub agree : (image : List ℕ) (chip : ℕ) (table picture : List ℕ) → registersCall image chip table .number ≡ 0 → pinsCall image chip picture .number ≡ 0
       → BytesAgree (registersCall image chip table .buffer) (pinsCall image chip picture .buffer)

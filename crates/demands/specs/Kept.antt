@@ -10,8 +10,8 @@ use Rattle.refusal.specs.Numbers.{isAccepted}
 use Rattle.refusal.specs.Answers.{handed}
 use Rattle.chain.specs.Events.{eventOf}
 use Rattle.chain.specs.Fields.{chipAt}
-use Rattle.chain.specs.Pins.{isIdle, isResponding}
-use Rattle.chain.specs.Pulse.{selected}
+use Rattle.response.specs.Held.{isIdle, isResponding}
+use Rattle.chain.specs.Seen.{selected}
 use Rattle.chain.specs.Refusals.{verdictOf}
 use Rattle.chain.specs.Sound.{sound}
 use Rattle.chain.specs.Start.{startOf}

@@ -9,8 +9,6 @@ pub mod Demand3
 pub mod FromC
 pub mod Kept
 pub mod Misread
-pub mod Outcomes
-pub mod Pages
 pub mod Rules
 pub mod Runs
 pub mod Table

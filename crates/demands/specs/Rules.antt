@@ -8,15 +8,15 @@ use Rattle.search.specs.Candidate.{exists, channelOf}
 use Rattle.chip.specs.Status.{isArmed, isPolled, isRotating, candidateOf, statusByte}
 use Rattle.chip.specs.declared.Chip.{Chip}
 use Rattle.refusal.specs.Answers.{handed}
-use Rattle.chain.specs.Views.{tabled, tableOf, pictureOf, registerView, pinView}
-use Rattle.chain.specs.Events.{answerOf, changed, accepted, eventOf}
+use Rattle.refusal.specs.declared.Verdict.the-variants.{Accepted}
+use Rattle.views.specs.Views.{tableOf, pictureOf, registerView, pinView}
+use Rattle.chain.specs.Apply.{answerOf, changed, counted}
+use Rattle.chain.specs.Events.{eventOf}
 use Rattle.chain.specs.Sound.{sound}
 use Rattle.chain.specs.declared.Chain.{Chain}
 use Rattle.event.specs.declared.Event.{Event}
 use Rattle.event.specs.declared.Event.the-variants.{Status}
-use Rattle.chain.specs.declared.PinView.the-variants.{Picture}
-use Rattle.chain.specs.declared.RegisterView.the-variants.{Table}
-use Rattle.chain.specs.declared.Registers.{Registers}
+use Rattle.views.specs.declared.Registers.{Registers}
 use Rattle.demands.specs.Along.{accepts}
 
 -- the bits of a chip's status byte, with its EI at a level
@@ -34,13 +34,13 @@ waitsIn r channel = digit (bit (r .irr) channel && not (bit (r .imr) channel))
 
 pub record ByTheRules : Type 0 where
   -- an accepted event answers by its rule, and leaves the chain of its rule, counted: each register and each response byte
-  pub event : (e : Event) (s : Chain) → accepts e s ≡ true → eventOf e s ≡ accepted (answerOf e s) (changed e s)
+  pub event : (e : Event) (s : Chain) → accepts e s ≡ true → eventOf e s ≡ record { answer = answerOf e s; chain = counted (changed e s) }
   -- the views of a chip in the count of a sound chain are given: each register, the status byte and each pin, with the chain's event number
-  pub table : (s : Chain) (chip : ℕ) → sound s ≡ true → chip < s .count → registerView chip s ≡ Table (tableOf chip s)
-  pub picture : (s : Chain) (chip : ℕ) → sound s ≡ true → chip < s .count → pinView chip s ≡ Picture (pictureOf chip s)
+  pub table : (s : Chain) (chip : ℕ) → sound s ≡ true → chip < s .count → registerView chip s ≡ record { verdict = Accepted; table = tableOf chip s }
+  pub picture : (s : Chain) (chip : ℕ) → sound s ≡ true → chip < s .count → pinView chip s ≡ record { verdict = Accepted; picture = pictureOf chip s }
   -- the status byte that is read is that of the table of the same state, and has these bits
   pub status-read : (s : Chain) (chip : ℕ) → accepts (Status chip) s ≡ true
-      → handed (eventOf (Status chip) s .answer) .byte ≡ tabled (registerView chip s) .registers .status
+      → handed (eventOf (Status chip) s .answer) .byte ≡ registerView chip s .table .status
   pub status-bits : (c : Chip) (ei : Bool) → StatusBits c ei
   -- the waiting number is a sum over the eight channels of the table's own IRR and IMR
   pub waiting-is-a-sum : (s : Chain) (chip : ℕ)

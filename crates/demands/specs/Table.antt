@@ -1,5 +1,5 @@
 -- Document 01, "Numbers handed back", as one table for all calls: each number with the case in which it is given, in the table's order.
--- `chain/specs/Refusals` tells it event by event; that each call goes by this one table is the statement here.
+-- `decide/specs/Refusals` tells it event by event; that each call goes by this one table is the statement here.
 use mathlib.Core.Bool.{Bool, not, cond, _&&_, _||_}
 use mathlib.Core.List.{List, [], _∷_, _++_}
 use mathlib.Core.Path.{_≡_}
@@ -11,7 +11,7 @@ use Rattle.search.specs.Candidate.{searchNumber}
 use Rattle.chip.specs.Data.{hasNoDestination, isPastItsCount}
 use Rattle.chip.specs.Figure4.{figure4, undefined}
 use Rattle.refusal.specs.Answers.{handed}
-use Rattle.chain.specs.Views.{tabled, pictured, registerView, pinView}
+use Rattle.views.specs.Views.{registerView, pinView}
 use Rattle.chain.specs.Events.{eventOf}
 use Rattle.chain.specs.Fields.{chipAt}
 use Rattle.chain.specs.Sound.{sound}
@@ -86,8 +86,8 @@ pub record ByTheTable : Type 0 where
   -- start count outside 1 to 8
   pub start : (count fill : ℕ) → handed (startOf count fill .answer) .number ≡ given ((1, not (leb 1 count && leb count 8)) ∷ [])
   pub event : (e : Event) (s : Chain) → handed (eventOf e s .answer) .number ≡ given (eventEntries (inNumbers e) s)
-  pub register-view : (chip : ℕ) (s : Chain) → tabled (registerView chip s) .number ≡ given (chainNotSound s ∷ chipNotBelow chip s ∷ [])
-  pub pin-view : (chip : ℕ) (s : Chain) → pictured (pinView chip s) .number ≡ given (chainNotSound s ∷ chipNotBelow chip s ∷ [])
+  pub register-view : (chip : ℕ) (s : Chain) → verdictNumber (registerView chip s .verdict) ≡ given (chainNotSound s ∷ chipNotBelow chip s ∷ [])
+  pub pin-view : (chip : ℕ) (s : Chain) → verdictNumber (pinView chip s .verdict) ≡ given (chainNotSound s ∷ chipNotBelow chip s ∷ [])
   -- a run: before any event, else at the event where it ended before its limit and the end of its list
   pub run : (s : Chain) (bytes : List ℕ) (limit : ℕ) (results : List ℕ)
       → verdictNumber (runOf s bytes limit results .ran .verdict)

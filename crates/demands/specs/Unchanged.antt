@@ -4,10 +4,10 @@ use mathlib.Core.List.{List}
 use mathlib.Core.Path.{_≡_}
 use Prim.Native.Nat.{ℕ, _*_, _≤_}
 use lib.ListN.{getD, length}
-use Rattle.refusal.specs.Numbers.{isAccepted}
+use Rattle.refusal.specs.Numbers.{verdictNumber, isAccepted}
 use Rattle.refusal.specs.declared.Verdict.the-variants.{Accepted}
 use Rattle.refusal.specs.Answers.{handed}
-use Rattle.chain.specs.Views.{tabled, pictured, registerView, pinView}
+use Rattle.views.specs.Views.{registerView, pinView}
 use Rattle.chain.specs.Events.{eventOf}
 use Rattle.chain.specs.Fields.{zeroChain}
 use Rattle.chain.specs.Start.{startOf}
@@ -27,10 +27,10 @@ pub record Unchanged : Type 0 where
   -- a refused start hands back a chain of count 0, all zero, without destination or response
   pub no-start : (count fill : ℕ) → (handed (startOf count fill .answer) .number ≡ 0 → ⊥) → startOf count fill .chain ≡ zeroChain
   -- a refused view has all its fields 0
-  pub no-table : (chip : ℕ) (s : Chain) → (tabled (registerView chip s) .number ≡ 0 → ⊥)
-      → tabled (registerView chip s) .registers ≡ record { event = 0; irr = 0; isr = 0; imr = 0; acr = 0; mode = 0; status = 0; waiting = 0 }
-  pub no-picture : (chip : ℕ) (s : Chain) → (pictured (pinView chip s) .number ≡ 0 → ⊥)
-      → pictured (pinView chip s) .pins ≡ record { event = 0; ei = 0; eo = 0; gint = 0; rip = 0; pause = 0; iack = 0 }
+  pub no-table : (chip : ℕ) (s : Chain) → (verdictNumber (registerView chip s .verdict) ≡ 0 → ⊥)
+      → registerView chip s .table ≡ record { event = 0; irr = 0; isr = 0; imr = 0; acr = 0; mode = 0; status = 0; waiting = 0 }
+  pub no-picture : (chip : ℕ) (s : Chain) → (verdictNumber (pinView chip s .verdict) ≡ 0 → ⊥)
+      → pinView chip s .picture ≡ record { event = 0; ei = 0; eo = 0; gint = 0; rip = 0; pause = 0; iack = 0 }
   -- a run that is refused before any event hands back the chain and the results as given, and accepts none
   pub refused-before : (s : Chain) (bytes : List ℕ) (limit : ℕ) (results : List ℕ) → isAccepted (beforeAny s bytes results) ≡ false
       → runOf s bytes limit results ≡ stopped (beforeAny s bytes results) 0 s results

@@ -13,14 +13,14 @@ use Rattle.refusal.specs.Numbers.{isAccepted}
 use Rattle.chain.specs.Events.{eventOf}
 use Rattle.chain.specs.Refusals.{verdictOf}
 use Rattle.chain.specs.Fields.{chipAt}
-use Rattle.chain.specs.Pins.{isIdle}
-use Rattle.chain.specs.Pulse.{selected}
+use Rattle.response.specs.Held.{isIdle}
+use Rattle.chain.specs.Seen.{selected}
 use Rattle.chain.specs.Sound.{sound}
 use Rattle.chain.specs.declared.Chain.{Chain}
 use Rattle.event.specs.declared.Event.{Event}
 use Rattle.event.specs.Numbers.{inNumbers, isKind, isFall}
-use Rattle.chain.specs.declared.Response.{Response}
-use Rattle.chain.specs.declared.Response.the-variants.{Idle, UnderWay}
+use Rattle.response.specs.declared.Response.{Response}
+use Rattle.response.specs.declared.Response.the-variants.{Idle, UnderWay}
 use Rattle.demands.specs.Along.{along}
 
 -- a chip that is armed, in interrupt mode and in rotating priority, and a request on it that is latched and unmasked
