@@ -1,5 +1,5 @@
 // K1 to K14 (document 01, "On the bench"). Codes are hex; one chip and fill 0 unless said.
-use bench::Bench;
+use bench_case::Bench;
 use chain::Chain;
 
 // K1 start, status: 40. As after reset, so all is masked.

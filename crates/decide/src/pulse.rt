@@ -45,7 +45,8 @@ impl Seen {
         ensures { λ r. ⌜ r ≡ firstPulse (UnderWay reply) self ⌝ }
     {
         let chip = self.chip;
-        self.driving(reply).replacing(self.at, chip.fall(reply.channel))
+        self.driving(reply)
+            .replacing(self.at, chip.fall(reply.channel))
     }
 
     // A first pulse: the selected chip answers, or the pulse stalls: accepted, no byte.

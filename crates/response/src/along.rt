@@ -53,6 +53,10 @@ impl Walk {
         if !self.ei {
             return self.at + 1;
         }
-        if chip.gint_active() { self.at } else { self.at + 1 }
+        if chip.gint_active() {
+            self.at
+        } else {
+            self.at + 1
+        }
     }
 }

@@ -45,7 +45,7 @@ same-length c = search needs
 
 returns : tie.Need-returns
 unfolding chainIn
-returns c = 
+returns c =
     let is : eventOf (c .before .before .before .before .before .before .before .before .before .before .before .before .before .args .e) (chainIn (c .before .before .before .before .before .before .before .before .before .before .before .before .before .args .image .now)) ≡ accepted (c .before .before .before .change .result) (chainIn (c .before .before .before .before .before .before .before .before .before .before .before .before .before .args .image .now)) =
     is-accepted (c .before .before .before .before .before .before .before .before .before .before .before .before .before .args .e) (chainIn (c .before .before .before .before .before .before .before .before .before .before .before .before .before .args .image .now)) _ (c .before .before .before .before .before .before .before .before .seen-in .ensures ∙ ap (λ (look : Look). seenIn look (chainIn (c .before .before .before .before .before .before .before .before .before .before .before .before .before .args .image .now))) (c .before .before .before .before .before .before .before .before .before .of .ensures ∙ ap (lookOf (c .before .before .before .before .before .before .before .before .before .before .before .before .before .args .e)) (c .before .before .before .before .before .before .before .before .before .before .response-in .ensures))) (c .before .before .before .before .before .before .before .before .before .before .before .before .before .pre .1) (sym (c .before .before .before .before .before .before .before .verdict .ensures) ∙ c .before .before .before .before .before .enum-told .given .1) ∙ ap (λ (d : Change). accepted d (chainIn (c .before .before .before .before .before .before .before .before .before .before .before .before .before .args .image .now))) (sym (c .before .before .before .change .ensures)) in
     (c .before .before .accept .ensures .0 ∙ ap (λ (o : Outcome). o .answer) (sym is), (c .before .before .accept .ensures .1 .0, c .before .before .accept .ensures .1 .1 ∙ ap (λ (o : Outcome). o .chain) (sym is)))
@@ -55,7 +55,7 @@ same-length-2 c = search needs
 
 returns-2 : tie.Need-returns-2
 unfolding chainIn refused
-returns-2 c = 
+returns-2 c =
     let is = is-refused (c .before .before .before .before .before .before .before .before .before .args .e) (chainIn (c .before .before .before .before .before .before .before .before .before .args .image .now)) _ _ (c .before .before .before .before .seen-in .ensures ∙ ap (λ (look : Look). seenIn look (chainIn (c .before .before .before .before .before .before .before .before .before .args .image .now))) (c .before .before .before .before .before .of .ensures ∙ ap (lookOf (c .before .before .before .before .before .before .before .before .before .args .e)) (c .before .before .before .before .before .before .response-in .ensures))) (c .before .before .before .before .before .before .before .before .before .pre .1) (sym (c .before .before .before .verdict .ensures) ∙ c .before .judged .given .1) in
     (ap (λ (o : Outcome). o .answer) (sym is), (c .before .before .before .before .before .before .before .before .before .pre .0, ap (λ (o : Outcome). o .chain) (sym is)))
 

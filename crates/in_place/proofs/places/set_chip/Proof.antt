@@ -52,9 +52,9 @@ same-length : tie.Need-same-length
 same-length c = search needs
 
 returns-2 : tie.Need-returns-2
-returns-2 c = 
-    let at : ℕ = 16 + 64 * c .before .before .before .before .before .before .args .i in 
-    let b : List ℕ = c .before .before .before .before .before .before .args .image .now in 
+returns-2 c =
+    let at : ℕ = 16 + 64 * c .before .before .before .before .before .before .args .i in
+    let b : List ℕ = c .before .before .before .before .before .before .args .image .now in
     let written : putMid at (at + 64 - at) b (c .before .before .put-chip .last .0) ≡ over b at (chipRecord (c .before .before .before .before .before .before .args .chip)) =
     ap (putMid at (at + 64 - at) b) (c .before .before .put-chip .ensures)
     ∙ part-over b (chipRecord (c .before .before .before .before .before .before .args .chip)) at (at + 64) (omega arith) (omega (arith, record-length (c .before .before .before .before .before .before .args .chip) (whole (c .before .before .before .before .before .before)))) in
