@@ -7,7 +7,7 @@
 -- (s, (chip, tt)) are the arguments s and chip. At the return a value is as it was passed; a lent buffer may hold something else, and `at-last buffer x` is that
 -- buffer with x in it. That a call ends is part of being proved.
 --
--- For example `command`, the call `s.command(chip, code)`. Nothing is lent to it, and its arguments are a chain and two numbers, any that their types hold. The field
+-- For example `command`, the call `s.command(chip, code)`. Nothing is lent to it, and its arguments are a chain and two numbers, whatever they are. The field
 -- says three things. A caller may pass these: nothing is asked (`taken`). The outcome that the definitions give, `eventOf (Command chip code) s`, is one that the
 -- call's promise allows (`satisfied`). And two results that the promise allows are the same (`no-two`). So that outcome is what the call hands back.
 use mathlib.Core.List.{List}
