@@ -35,12 +35,13 @@ same-length c = search needs
 
 returns-2 : tie.Need-returns-2
 unfolding setIn
-returns-2 c = 
-    (c .before .before .set-iack .ensures .0,
-    c .before .before .set-iack .ensures .1
-    ∙ ap (withIack (c .before .before .before .before .before .before .before .before .before .before .before .before .before .before .before .args .change .iack))
-    (c .before .before .before .before .before .before .set-enable .ensures .1 ∙ ap (withEnable (c .before .before .before .before .before .before .before .before .before .before .before .before .before .before .before .args .change .enable)) (c .before .before .before .before .before .before .before .before .before .before .set-response .ensures .1))
-    ∙ sym (is-set (c .before .before .before .before .before .before .before .before .before .before .before .before .before .before .before .args .change) (chainIn (c .before .before .before .before .before .before .before .before .before .before .before .before .before .before .before .args .image .now)) (not-false (c .before .before .before .before .before .before .before .before .before .before .before .before .before .before .before .args .change .sets) (c .before .before .before .before .before .before .before .before .before .before .before .before .if1 .left))))
+returns-2 c = (
+  c .before .before .set-iack .ensures .0,
+  c .before .before .set-iack .ensures .1
+      ∙ ap (withIack (c .before .before .before .before .before .before .before .before .before .before .before .before .before .before .before .args .change .iack))
+      (c .before .before .before .before .before .before .set-enable .ensures .1 ∙ ap (withEnable (c .before .before .before .before .before .before .before .before .before .before .before .before .before .before .before .args .change .enable)) (c .before .before .before .before .before .before .before .before .before .before .set-response .ensures .1))
+      ∙ sym (is-set (c .before .before .before .before .before .before .before .before .before .before .before .before .before .before .before .args .change) (chainIn (c .before .before .before .before .before .before .before .before .before .before .before .before .before .before .before .args .image .now)) (not-false (c .before .before .before .before .before .before .before .before .before .before .before .before .before .before .before .args .change .sets) (c .before .before .before .before .before .before .before .before .before .before .before .before .if1 .left))),
+)
 
 pub set-spec : {M : Type 1} → statement M
 set-spec =

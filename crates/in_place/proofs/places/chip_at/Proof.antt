@@ -38,16 +38,16 @@ part-chip-in-end : tie.Need-part-chip-in-end
 part-chip-in-end c = search needs
 
 chip-in-requires : tie.Need-chip-in-requires
-chip-in-requires c κs = 
-    let at : ℕ = 16 + 64 * c .before .before .before .args .i in 
-    let b : List ℕ = c .before .before .before .args .image .now in 
+chip-in-requires c κs =
+    let at : ℕ = 16 + 64 * c .before .before .before .args .i in
+    let b : List ℕ = c .before .before .before .args .image .now in
     omega (arith, length-take (length b - at) (drop at b), length-drop at b, image-length b (c .before .before .before .pre), c .before .if1 .left)
 
 returns-2 : tie.Need-returns-2
 unfolding chainIn
-returns-2 c = 
-    let at : ℕ = 16 + 64 * c .before .before .before .before .args .i in 
-    let b : List ℕ = c .before .before .before .before .args .image .now in 
+returns-2 c =
+    let at : ℕ = 16 + 64 * c .before .before .before .before .args .i in
+    let b : List ℕ = c .before .before .before .before .args .image .now in
     c .chip-in .ensures
     ∙ ap chipIn (take-all (length b - at) (drop at b) (omega (arith, length-drop at b)) ∙ sym (drop-drop (64 * c .before .before .before .before .args .i) 16 b))
     ∙ sym (chips-at 8 (drop 16 b) (c .before .before .before .before .args .i) zeroChip (c .before .before .if1 .left))
