@@ -42,14 +42,14 @@ pub(crate) fn chip_round(image: &[u8], i: u8) -> Chip
     chip_in(&image[at..])
 }
 
-// Chip i replaced.
+// Chip i replaced. Its place is worked out as `chip_round` does, so that the compiler sees the same record, and what is unchanged in it is not written.
 pub(crate) fn set_chip(image: &mut [u8], i: u8, chip: Chip)
     requires { ⌜ isImage (now image) ≡ true ⌝ }
     requires { ⌜ i < 8 ⌝ }
     ensures { λ _. ⌜ isImage (now (image .exit)) ≡ true ⌝ }
     ensures { λ _. ⌜ chainIn (now (image .exit)) ≡ withChip i chip (chainIn (now (image .entry))) ⌝ }
 {
-    let at = RECORDS + RECORD * i as usize;
+    let at = RECORDS + RECORD * (i % 8) as usize;
     let end = at + RECORD;
     put_chip(&mut image[at..end], chip);
 }

@@ -3,9 +3,10 @@
 use borrow.Author.Needs.{needs}
 use mathlib.Core.List.{List}
 use mathlib.Core.Path.{_≡_, ap, _∙_}
-use Prim.Native.Nat.{ℕ, _+_, _-_, _*_}
+use Prim.Native.Nat.{ℕ, _+_, _-_, _*_, _%_}
 use native.Mathlib.Omega.{arith}
 use borrow.Rule.Slice.PartMut.{putMid}
+use Rattle.chain.specs.Fields.{withChip}
 use Rattle.image.specs.Layout.{chipRecord, over}
 use Rattle.image.specs.OneToOne.{WholeChip}
 use Rattle.image.specs.Reading.{chainIn, isImage}
@@ -18,6 +19,9 @@ use Rattle.in_place.proofs.places.set_chip.Tie as tie
 
 whole : (c : tie.Start) → WholeChip (c .args .chip)
 whole c = record { eight-codes = search needs; all-memory = search needs }
+
+cast-at : tie.Need-cast-at
+cast-at c = search needs
 
 mul-at : tie.Need-mul-at
 mul-at c = search needs
@@ -45,18 +49,21 @@ same-length c = search needs
 
 returns : tie.Need-returns
 returns c =
-    let at : ℕ = 16 + 64 * c .before .before .before .before .before .args .i in
+    let k : ℕ = c .before .before .before .before .before .args .i % 8 in
+    let within : k ≡ c .before .before .before .before .before .args .i = omega (arith, c .before .before .before .before .before .pre .1) in
+    let at : ℕ = 16 + 64 * k in
     let b : List ℕ = c .before .before .before .before .before .args .image .now in
     let written : putMid at (at + 64 - at) b (c .before .before .put-chip .last .0) ≡ over b at (chipRecord (c .before .before .before .before .before .args .chip)) =
     ap (putMid at (at + 64 - at) b) (c .before .before .put-chip .ensures)
     ∙ part-over b (chipRecord (c .before .before .before .before .before .args .chip)) at (at + 64) (omega arith) (omega (arith, record-length (c .before .before .before .before .before .args .chip) (whole (c .before .before .before .before .before)))) in
-    let held = chip-set b (c .before .before .before .before .before .args .i) (c .before .before .before .before .before .args .chip) (c .before .before .before .before .before .pre .0) (whole (c .before .before .before .before .before)) (c .before .before .before .before .before .pre .1) in
-    (ap isImage written ∙ held .image, ap chainIn written ∙ held .holds-it)
+    let held = chip-set b k (c .before .before .before .before .before .args .chip) (c .before .before .before .before .before .pre .0) (whole (c .before .before .before .before .before)) (omega arith) in
+    (ap isImage written ∙ held .image, ap chainIn written ∙ held .holds-it ∙ ap (λ (n : ℕ). withChip n (c .before .before .before .before .before .args .chip) (chainIn b)) within)
 
 pub set-chip-spec : {M : Type 1} → statement M
 set-chip-spec =
     tie.close
     (tie.spec
+    cast-at
     mul-at
     add-at
     add-end
