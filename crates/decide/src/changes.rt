@@ -82,7 +82,7 @@ impl Change {
 
 impl Seen {
     // A command write. A reset of the responding chip ends its response.
-    fn command(self, i: u8, code: u8) -> Change
+    pub fn command(self, i: u8, code: u8) -> Change
         ensures { λ r. ⌜ r ≡ decided (Command i code) self ⌝ }
     {
         let chip = self.chip;
@@ -96,7 +96,7 @@ impl Seen {
     }
 
     // A data write.
-    fn data_write(self, i: u8, byte: u8) -> Change
+    pub fn data_write(self, i: u8, byte: u8) -> Change
         requires { ⌜ chipSound (self .chip) ≡ true ⌝ }
         ensures { λ r. ⌜ r ≡ decided (Data i byte) self ⌝ }
     {
@@ -105,7 +105,7 @@ impl Seen {
     }
 
     // A status read.
-    fn status(self, i: u8) -> Change
+    pub fn status(self, i: u8) -> Change
         ensures { λ r. ⌜ r ≡ decided (Status i) self ⌝ }
     {
         let chip = self.chip;
@@ -114,7 +114,7 @@ impl Seen {
     }
 
     // A data read.
-    fn read(self, i: u8) -> Change
+    pub fn read(self, i: u8) -> Change
         ensures { λ r. ⌜ r ≡ decided (Read i) self ⌝ }
     {
         let chip = self.chip;
@@ -123,7 +123,7 @@ impl Seen {
     }
 
     // A line takes a level.
-    fn line(self, i: u8, channel: u8, level: u8) -> Change
+    pub fn line(self, i: u8, channel: u8, level: u8) -> Change
         ensures { λ r. ⌜ r ≡ decided (Line i channel level) self ⌝ }
     {
         let chip = self.chip;
@@ -131,7 +131,7 @@ impl Seen {
     }
 
     // The chain's Enable In takes a level.
-    fn enable(self, level: u8) -> Change
+    pub fn enable(self, level: u8) -> Change
         ensures { λ r. ⌜ r ≡ decided (Enable level) self ⌝ }
     {
         let response = self.response;

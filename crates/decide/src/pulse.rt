@@ -62,7 +62,7 @@ impl Seen {
     }
 
     // IACK falls: with a response under way its chip drives the next byte; otherwise it is a first pulse.
-    pub(crate) fn fall(self) -> Change
+    pub fn fall(self) -> Change
         requires { ⌜ seenSound self ≡ true ⌝ }
         requires { ⌜ self .iack ≡ true ⌝ }
         ensures { λ r. ⌜ r ≡ decided Fall self ⌝ }
@@ -88,7 +88,7 @@ impl Seen {
     }
 
     // IACK rises: after a stall nothing more changes.
-    pub(crate) fn rise(self) -> Change
+    pub fn rise(self) -> Change
         ensures { λ r. ⌜ r ≡ decided Rise self ⌝ }
     {
         let response = self.response;

@@ -40,7 +40,7 @@ pub fn chip_verdict(count: u8, i: u8) -> Verdict
 }
 
 // Every access on the bus, and the whole verdict on a read: chip not below the count; IACK low.
-fn bus_verdict(count: u8, i: u8, iack: bool) -> Verdict
+pub fn bus_verdict(count: u8, i: u8, iack: bool) -> Verdict
     ensures { λ r. ⌜ r ≡ firstOf (noSuchChip count i ∷ pulseUnderWay iack ∷ []) ⌝ }
 {
     let named = chip_verdict(count, i);
@@ -54,7 +54,7 @@ fn bus_verdict(count: u8, i: u8, iack: bool) -> Verdict
 }
 
 // A command write.
-fn command_verdict(count: u8, i: u8, iack: bool, code: u8) -> Verdict
+pub fn command_verdict(count: u8, i: u8, iack: bool, code: u8) -> Verdict
     ensures { λ r. ⌜ r ≡ firstOf (noSuchChip count i ∷ pulseUnderWay iack ∷ undefinedCommand code ∷ []) ⌝ }
 {
     let bus = bus_verdict(count, i, iack);
@@ -68,7 +68,7 @@ fn command_verdict(count: u8, i: u8, iack: bool, code: u8) -> Verdict
 }
 
 // A data write.
-fn data_verdict(count: u8, i: u8, iack: bool, chip: Chip) -> Verdict
+pub fn data_verdict(count: u8, i: u8, iack: bool, chip: Chip) -> Verdict
     ensures { λ r. ⌜ r ≡ firstOf (noSuchChip count i ∷ pulseUnderWay iack ∷ noDestination chip ∷ pastItsCount chip ∷ []) ⌝ }
 {
     let bus = bus_verdict(count, i, iack);
@@ -85,7 +85,7 @@ fn data_verdict(count: u8, i: u8, iack: bool, chip: Chip) -> Verdict
 }
 
 // A line takes a level.
-fn line_verdict(count: u8, i: u8, channel: u8, level: u8) -> Verdict
+pub fn line_verdict(count: u8, i: u8, channel: u8, level: u8) -> Verdict
     ensures { λ r. ⌜ r ≡ firstOf (noSuchChip count i ∷ noSuchChannel channel ∷ noSuchLevel level ∷ []) ⌝ }
 {
     let named = chip_verdict(count, i);
@@ -99,7 +99,7 @@ fn line_verdict(count: u8, i: u8, channel: u8, level: u8) -> Verdict
 }
 
 // The whole verdict on Enable In, and the last test of a line: level above 1.
-fn level_verdict(level: u8) -> Verdict
+pub fn level_verdict(level: u8) -> Verdict
     ensures { λ r. ⌜ r ≡ firstOf (noSuchLevel level ∷ []) ⌝ }
 {
     if level > 1 {
@@ -109,7 +109,7 @@ fn level_verdict(level: u8) -> Verdict
 }
 
 // IACK falls: it is low already.
-fn fall_verdict(iack: bool) -> Verdict
+pub fn fall_verdict(iack: bool) -> Verdict
     ensures { λ r. ⌜ r ≡ firstOf (iackIsLow iack ∷ []) ⌝ }
 {
     if !iack {
@@ -119,7 +119,7 @@ fn fall_verdict(iack: bool) -> Verdict
 }
 
 // IACK rises: it is high already.
-fn rise_verdict(iack: bool) -> Verdict
+pub fn rise_verdict(iack: bool) -> Verdict
     ensures { λ r. ⌜ r ≡ firstOf (iackIsHigh iack ∷ []) ⌝ }
 {
     if iack {

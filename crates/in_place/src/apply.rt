@@ -1,11 +1,14 @@
 // What an event looks at in an image, and an image with what is decided applied where it lies.
 ghost use mathlib.Core.Bool.{true};
 ghost use mathlib.Core.Path.{_≡_};
+ghost use Prim.Native.Nat.{_<_};
 ghost use Rattle.chain.specs.Apply.{replacedIn, setIn, applied};
-ghost use Rattle.chain.specs.Seen.{lookedAt, lookedEi, seenAt, seenIn};
+ghost use Rattle.chain.specs.Seen.{lookedAt};
 ghost use Rattle.chain.specs.Walk.{walkedTo};
 ghost use Rattle.image.specs.Reading.{chainIn, isImage};
+ghost use Rattle.in_place.specs.Round.{seenRound};
 use crate::places::chip_at;
+use crate::places::chip_round;
 use crate::places::set_chip;
 use crate::places::set_enable;
 use crate::places::set_iack;
@@ -20,7 +23,7 @@ use image::reading::response_in;
 use response::Walk;
 
 // The walk along the chain up to a chip.
-fn walked(image: &[u8], to: u8) -> Walk
+pub(crate) fn walked(image: &[u8], to: u8) -> Walk
     requires { ⌜ isImage (now image) ≡ true ⌝ }
     ensures { λ r. ⌜ r ≡ walkedTo (chainIn (now (image .entry))) to ⌝ }
 {
@@ -32,24 +35,8 @@ fn walked(image: &[u8], to: u8) -> Walk
     walk
 }
 
-// The chain's own fields, and a chip with its number and its Enable In.
-fn seen_at(image: &[u8], at: u8, ei: bool) -> Seen
-    requires { ⌜ isImage (now image) ≡ true ⌝ }
-    ensures { λ r. ⌜ r ≡ seenAt at ei (chainIn (now (image .entry))) ⌝ }
-{
-    Seen {
-        count: image[COUNT],
-        enable: image[ENABLE] == 1,
-        iack: image[IACK] == 1,
-        response: response_in(image),
-        at: at,
-        chip: chip_at(image, at),
-        ei: ei,
-    }
-}
-
 // The number of the chip that an event looks at; the count where there is no such chip.
-fn looked_at(image: &[u8], look: Look) -> u8
+pub(crate) fn looked_at(image: &[u8], look: Look) -> u8
     requires { ⌜ isImage (now image) ≡ true ⌝ }
     ensures { λ r. ⌜ r ≡ lookedAt look (chainIn (now (image .entry))) ⌝ }
 {
@@ -61,30 +48,27 @@ fn looked_at(image: &[u8], look: Look) -> u8
     }
 }
 
-// Its Enable In, for an event that looks at it.
-fn looked_ei(image: &[u8], look: Look) -> bool
+// The chain's own fields, and a chip with its number and its Enable In. Past the eight records the number tells that there is no such chip, and the chip is
+// some other.
+pub(crate) fn seen_round(image: &[u8], at: u8, ei: bool) -> Seen
     requires { ⌜ isImage (now image) ≡ true ⌝ }
-    ensures { λ r. ⌜ r ≡ lookedEi look (chainIn (now (image .entry))) ⌝ }
+    ensures { λ r. ⌜ r ≡ seenRound at ei (chainIn (now (image .entry))) ⌝ }
 {
-    match look {
-        Look::Nowhere => false,
-        Look::At(_) => false,
-        Look::AtEi(i) => walked(image, i).ei,
-        Look::Answering => false,
+    Seen {
+        count: image[COUNT],
+        enable: image[ENABLE] == 1,
+        iack: image[IACK] == 1,
+        response: response_in(image),
+        at: at,
+        chip: chip_round(image, at),
+        ei: ei,
     }
-}
-
-// What an event sees where it looks.
-pub(crate) fn seen_in(image: &[u8], look: Look) -> Seen
-    requires { ⌜ isImage (now image) ≡ true ⌝ }
-    ensures { λ r. ⌜ r ≡ seenIn look (chainIn (now (image .entry))) ⌝ }
-{
-    seen_at(image, looked_at(image, look), looked_ei(image, look))
 }
 
 // The chip that is replaced, if one is.
 fn replace(image: &mut [u8], change: Change)
     requires { ⌜ isImage (now image) ≡ true ⌝ }
+    requires { ⌜ change .at < 8 ⌝ }
     ensures { λ _. ⌜ isImage (now (image .exit)) ≡ true ⌝ }
     ensures { λ _. ⌜ chainIn (now (image .exit)) ≡ replacedIn change (chainIn (now (image .entry))) ⌝ }
 {
@@ -113,6 +97,7 @@ fn set(image: &mut [u8], change: Change)
 // What is decided.
 pub(crate) fn apply(image: &mut [u8], change: Change)
     requires { ⌜ isImage (now image) ≡ true ⌝ }
+    requires { ⌜ change .at < 8 ⌝ }
     ensures { λ _. ⌜ isImage (now (image .exit)) ≡ true ⌝ }
     ensures { λ _. ⌜ chainIn (now (image .exit)) ≡ applied change (chainIn (now (image .entry))) ⌝ }
 {

@@ -2,6 +2,7 @@
 // Each function asks for an image; is_image has told, and each leaves one.
 ghost use mathlib.Core.Bool.{true};
 ghost use mathlib.Core.Path.{_≡_};
+ghost use Prim.Native.Nat.{_<_, _%_};
 ghost use Rattle.chain.specs.Apply.{counted};
 ghost use Rattle.chain.specs.Fields.{chipAt, withChip, withEnable, withIack, withResponse};
 ghost use Rattle.image.specs.Reading.{chainIn, isImage};
@@ -32,16 +33,23 @@ pub(crate) fn chip_at(image: &[u8], i: u8) -> Chip
     chip_in(&image[at..])
 }
 
-// Chip i replaced; past the eight records nothing is.
+// The chip in record i, counted round the eight: for i below 8, chip i. A number from the list is not yet known to be below the count, and this needs no test.
+pub(crate) fn chip_round(image: &[u8], i: u8) -> Chip
+    requires { ⌜ isImage (now image) ≡ true ⌝ }
+    ensures { λ r. ⌜ r ≡ chipAt (chainIn (now (image .entry))) (i % 8) ⌝ }
+{
+    let at = RECORDS + RECORD * (i % 8) as usize;
+    chip_in(&image[at..])
+}
+
+// Chip i replaced. Its place is worked out as `chip_round` does, so that the compiler sees the same record, and what is unchanged in it is not written.
 pub(crate) fn set_chip(image: &mut [u8], i: u8, chip: Chip)
     requires { ⌜ isImage (now image) ≡ true ⌝ }
+    requires { ⌜ i < 8 ⌝ }
     ensures { λ _. ⌜ isImage (now (image .exit)) ≡ true ⌝ }
     ensures { λ _. ⌜ chainIn (now (image .exit)) ≡ withChip i chip (chainIn (now (image .entry))) ⌝ }
 {
-    if i >= 8 {
-        return;
-    }
-    let at = RECORDS + RECORD * i as usize;
+    let at = RECORDS + RECORD * (i % 8) as usize;
     let end = at + RECORD;
     put_chip(&mut image[at..end], chip);
 }

@@ -1,77 +1,142 @@
 -- `in_place::on` meets its contract.
 -- Assumes nothing.
-use mathlib.Core.Path.{_≡_, ap, sym, _∙_}
 use borrow.Author.Needs.{needs}
-use native.Mathlib.Omega.{arith}
-use Rattle.decide.specs.Look.{lookOf}
-use Rattle.decide.specs.declared.Change.{Change}
-use Rattle.decide.specs.declared.Look.{Look}
-use Rattle.chain.proofs.Judged.{seen-asked, is-accepted, is-refused}
-use Rattle.chain.specs.Events.{accepted, refused, eventOf}
-use Rattle.chain.specs.Seen.{seenIn}
-use Rattle.chain.specs.declared.Outcome.{Outcome}
+use mathlib.Core.Path.{ap, sym, _∙_}
+use Rattle.event.specs.declared.Event.{Event}
+use Rattle.chain.specs.Events.{eventOf}
 use Rattle.image.specs.Reading.{chainIn}
-use Rattle.image.proofs.OneToOne.{image-length}
 use Rattle.in_place.proofs.on.Statement.{statement}
 use Rattle.in_place.proofs.on.Tie as tie
 
-response-in-requires : tie.Need-response-in-requires
-response-in-requires c κs = omega (arith, image-length (c .before .before .args .image .now) (c .before .before .pre .0))
+enum-known-e : tie.Need-enum-known-e
+enum-known-e c = search needs
 
-of-requires : tie.Need-of-requires
-of-requires c κs = search needs
+command-requires : tie.Need-command-requires
+command-requires c κs = search needs
 
-seen-in-requires : tie.Need-seen-in-requires
-seen-in-requires c κs = search needs
+enum-known-e-2 : tie.Need-enum-known-e-2
+enum-known-e-2 c = search needs
 
-verdict-requires : tie.Need-verdict-requires
-verdict-requires c κs = search needs
+data-write-requires : tie.Need-data-write-requires
+data-write-requires c κs = search needs
+
+enum-known-e-3 : tie.Need-enum-known-e-3
+enum-known-e-3 c = search needs
+
+status-requires : tie.Need-status-requires
+status-requires c κs = search needs
+
+enum-known-e-4 : tie.Need-enum-known-e-4
+enum-known-e-4 c = search needs
+
+read-requires : tie.Need-read-requires
+read-requires c κs = search needs
+
+enum-known-e-5 : tie.Need-enum-known-e-5
+enum-known-e-5 c = search needs
+
+line-requires : tie.Need-line-requires
+line-requires c κs = search needs
+
+enum-known-e-6 : tie.Need-enum-known-e-6
+enum-known-e-6 c = search needs
+
+enable-requires : tie.Need-enable-requires
+enable-requires c κs = search needs
 
 enum-told : tie.Need-enum-told
 enum-told c = search needs
 
-change-requires : tie.Need-change-requires
-unfolding chainIn
-change-requires c κs = (seen-asked (c .before .before .before .before .before .before .before .before .before .args .e) (chainIn (c .before .before .before .before .before .before .before .before .before .args .image .now)) _ (c .before .before .before .before .seen-in .ensures ∙ ap (λ (look : Look). seenIn look (chainIn (c .before .before .before .before .before .before .before .before .before .args .image .now))) (c .before .before .before .before .before .of .ensures ∙ ap (lookOf (c .before .before .before .before .before .before .before .before .before .args .e)) (c .before .before .before .before .before .before .response-in .ensures))) (c .before .before .before .before .before .before .before .before .before .pre .1), (sym (c .before .before .before .verdict .ensures) ∙ c .before .enum-told .given .1))
+fall-requires : tie.Need-fall-requires
+fall-requires c κs = search needs
 
-accept-requires : tie.Need-accept-requires
-accept-requires c κs = search needs
+enum-told-2 : tie.Need-enum-told-2
+enum-told-2 c = search needs
 
-enum-known-judged : tie.Need-enum-known-judged
-enum-known-judged c = search needs
+rise-requires : tie.Need-rise-requires
+rise-requires c κs = search needs
 
 same-length : tie.Need-same-length
 same-length c = search needs
 
 returns : tie.Need-returns
-unfolding chainIn
-returns c =
-    let is : eventOf (c .before .before .before .before .before .before .before .before .before .before .before .before .before .args .e) (chainIn (c .before .before .before .before .before .before .before .before .before .before .before .before .before .args .image .now)) ≡ accepted (c .before .before .before .change .result) (chainIn (c .before .before .before .before .before .before .before .before .before .before .before .before .before .args .image .now)) =
-    is-accepted (c .before .before .before .before .before .before .before .before .before .before .before .before .before .args .e) (chainIn (c .before .before .before .before .before .before .before .before .before .before .before .before .before .args .image .now)) _ (c .before .before .before .before .before .before .before .before .seen-in .ensures ∙ ap (λ (look : Look). seenIn look (chainIn (c .before .before .before .before .before .before .before .before .before .before .before .before .before .args .image .now))) (c .before .before .before .before .before .before .before .before .before .of .ensures ∙ ap (lookOf (c .before .before .before .before .before .before .before .before .before .before .before .before .before .args .e)) (c .before .before .before .before .before .before .before .before .before .before .response-in .ensures))) (c .before .before .before .before .before .before .before .before .before .before .before .before .before .pre .1) (sym (c .before .before .before .before .before .before .before .verdict .ensures) ∙ c .before .before .before .before .before .enum-told .given .1) ∙ ap (λ (d : Change). accepted d (chainIn (c .before .before .before .before .before .before .before .before .before .before .before .before .before .args .image .now))) (sym (c .before .before .before .change .ensures)) in
-    (c .before .before .accept .ensures .0 ∙ ap (λ (o : Outcome). o .answer) (sym is), (c .before .before .accept .ensures .1 .0, c .before .before .accept .ensures .1 .1 ∙ ap (λ (o : Outcome). o .chain) (sym is)))
+returns c = (c .before .before .command .ensures .0 ∙ ap (λ (e : Event). eventOf e (chainIn (c .before .before .before .before .before .before .before .before .args .image .now)) .answer) (sym (c .before .before .before .before .before .e .given .1)), (c .before .before .command .ensures .1 .0, c .before .before .command .ensures .1 .1 ∙ ap (λ (e : Event). eventOf e (chainIn (c .before .before .before .before .before .before .before .before .args .image .now)) .chain) (sym (c .before .before .before .before .before .e .given .1))))
 
 same-length-2 : tie.Need-same-length-2
 same-length-2 c = search needs
 
 returns-2 : tie.Need-returns-2
-unfolding chainIn refused
-returns-2 c =
-    let is = is-refused (c .before .before .before .before .before .before .before .before .before .args .e) (chainIn (c .before .before .before .before .before .before .before .before .before .args .image .now)) _ _ (c .before .before .before .before .seen-in .ensures ∙ ap (λ (look : Look). seenIn look (chainIn (c .before .before .before .before .before .before .before .before .before .args .image .now))) (c .before .before .before .before .before .of .ensures ∙ ap (lookOf (c .before .before .before .before .before .before .before .before .before .args .e)) (c .before .before .before .before .before .before .response-in .ensures))) (c .before .before .before .before .before .before .before .before .before .pre .1) (sym (c .before .before .before .verdict .ensures) ∙ c .before .judged .given .1) in
-    (ap (λ (o : Outcome). o .answer) (sym is), (c .before .before .before .before .before .before .before .before .before .pre .0, ap (λ (o : Outcome). o .chain) (sym is)))
+returns-2 c = (c .before .before .data-write .ensures .0 ∙ ap (λ (e : Event). eventOf e (chainIn (c .before .before .before .before .before .before .before .before .args .image .now)) .answer) (sym (c .before .before .before .before .before .e2 .given .1)), (c .before .before .data-write .ensures .1 .0, c .before .before .data-write .ensures .1 .1 ∙ ap (λ (e : Event). eventOf e (chainIn (c .before .before .before .before .before .before .before .before .args .image .now)) .chain) (sym (c .before .before .before .before .before .e2 .given .1))))
+
+same-length-3 : tie.Need-same-length-3
+same-length-3 c = search needs
+
+returns-3 : tie.Need-returns-3
+returns-3 c = (c .before .before .status .ensures .0 ∙ ap (λ (e : Event). eventOf e (chainIn (c .before .before .before .before .before .before .before .before .args .image .now)) .answer) (sym (c .before .before .before .before .before .e3 .given .1)), (c .before .before .status .ensures .1 .0, c .before .before .status .ensures .1 .1 ∙ ap (λ (e : Event). eventOf e (chainIn (c .before .before .before .before .before .before .before .before .args .image .now)) .chain) (sym (c .before .before .before .before .before .e3 .given .1))))
+
+same-length-4 : tie.Need-same-length-4
+same-length-4 c = search needs
+
+returns-4 : tie.Need-returns-4
+returns-4 c = (c .before .before .read .ensures .0 ∙ ap (λ (e : Event). eventOf e (chainIn (c .before .before .before .before .before .before .before .before .args .image .now)) .answer) (sym (c .before .before .before .before .before .e4 .given .1)), (c .before .before .read .ensures .1 .0, c .before .before .read .ensures .1 .1 ∙ ap (λ (e : Event). eventOf e (chainIn (c .before .before .before .before .before .before .before .before .args .image .now)) .chain) (sym (c .before .before .before .before .before .e4 .given .1))))
+
+same-length-5 : tie.Need-same-length-5
+same-length-5 c = search needs
+
+returns-5 : tie.Need-returns-5
+returns-5 c = (c .before .before .line .ensures .0 ∙ ap (λ (e : Event). eventOf e (chainIn (c .before .before .before .before .before .before .before .before .args .image .now)) .answer) (sym (c .before .before .before .before .before .e5 .given .1)), (c .before .before .line .ensures .1 .0, c .before .before .line .ensures .1 .1 ∙ ap (λ (e : Event). eventOf e (chainIn (c .before .before .before .before .before .before .before .before .args .image .now)) .chain) (sym (c .before .before .before .before .before .e5 .given .1))))
+
+same-length-6 : tie.Need-same-length-6
+same-length-6 c = search needs
+
+returns-6 : tie.Need-returns-6
+returns-6 c = (c .before .before .enable .ensures .0 ∙ ap (λ (e : Event). eventOf e (chainIn (c .before .before .before .before .before .before .before .before .args .image .now)) .answer) (sym (c .before .before .before .before .before .e6 .given .1)), (c .before .before .enable .ensures .1 .0, c .before .before .enable .ensures .1 .1 ∙ ap (λ (e : Event). eventOf e (chainIn (c .before .before .before .before .before .before .before .before .args .image .now)) .chain) (sym (c .before .before .before .before .before .e6 .given .1))))
+
+same-length-7 : tie.Need-same-length-7
+same-length-7 c = search needs
+
+returns-7 : tie.Need-returns-7
+returns-7 c = (c .before .before .fall .ensures .0 ∙ ap (λ (e : Event). eventOf e (chainIn (c .before .before .before .before .before .before .before .args .image .now)) .answer) (sym (c .before .before .before .before .enum-told .given .1)), (c .before .before .fall .ensures .1 .0, c .before .before .fall .ensures .1 .1 ∙ ap (λ (e : Event). eventOf e (chainIn (c .before .before .before .before .before .before .before .args .image .now)) .chain) (sym (c .before .before .before .before .enum-told .given .1))))
+
+same-length-8 : tie.Need-same-length-8
+same-length-8 c = search needs
+
+returns-8 : tie.Need-returns-8
+returns-8 c = (c .before .before .rise .ensures .0 ∙ ap (λ (e : Event). eventOf e (chainIn (c .before .before .before .before .before .before .before .args .image .now)) .answer) (sym (c .before .before .before .before .enum-told2 .given .1)), (c .before .before .rise .ensures .1 .0, c .before .before .rise .ensures .1 .1 ∙ ap (λ (e : Event). eventOf e (chainIn (c .before .before .before .before .before .before .before .args .image .now)) .chain) (sym (c .before .before .before .before .enum-told2 .given .1))))
 
 pub on-spec : {M : Type 1} → statement M
 on-spec =
     tie.close
     (tie.spec
-    response-in-requires
-    of-requires
-    seen-in-requires
-    verdict-requires
+    enum-known-e
+    command-requires
+    enum-known-e-2
+    data-write-requires
+    enum-known-e-3
+    status-requires
+    enum-known-e-4
+    read-requires
+    enum-known-e-5
+    line-requires
+    enum-known-e-6
+    enable-requires
     enum-told
-    change-requires
-    accept-requires
-    enum-known-judged
+    fall-requires
+    enum-told-2
+    rise-requires
     same-length
     returns
     same-length-2
-    returns-2)
+    returns-2
+    same-length-3
+    returns-3
+    same-length-4
+    returns-4
+    same-length-5
+    returns-5
+    same-length-6
+    returns-6
+    same-length-7
+    returns-7
+    same-length-8
+    returns-8)

@@ -8,7 +8,7 @@ use Rattle.in_place.proofs.apply.replace.Tie as tie
 
 returns : tie.Need-returns
 unfolding replacedIn
-returns c = (c .before .before .before .pre, simp (not-true (c .before .before .before .args .change .replaces) (c .if1 .taken)))
+returns c = (c .before .before .before .pre .0, simp (not-true (c .before .before .before .args .change .replaces) (c .if1 .taken)))
 
 set-chip-requires : tie.Need-set-chip-requires
 set-chip-requires c κs = search needs

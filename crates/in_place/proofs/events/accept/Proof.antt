@@ -1,11 +1,11 @@
--- `in_place::accept` meets its contract.
+-- `in_place::events::accept` meets its contract.
 -- Assumes nothing.
 use borrow.Author.Needs.{needs}
 use Rattle.chain.specs.Events.{accepted}
 use mathlib.Core.Path.{refl, ap, _∙_}
 use Rattle.chain.specs.Apply.{counted}
-use Rattle.in_place.proofs.accept.Statement.{statement}
-use Rattle.in_place.proofs.accept.Tie as tie
+use Rattle.in_place.proofs.events.accept.Statement.{statement}
+use Rattle.in_place.proofs.events.accept.Tie as tie
 
 apply-requires : tie.Need-apply-requires
 apply-requires c κs = search needs
