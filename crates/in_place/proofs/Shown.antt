@@ -35,7 +35,7 @@ use Rattle.chain.specs.Events.{accepted, refused, eventOf}
 use Rattle.chain.specs.Seen.{lookedAt, lookedEi, seenAt, seenBy}
 use Rattle.chain.specs.Sound.{sound}
 use Rattle.chain.specs.declared.Chain.{Chain}
-use Rattle.in_place.specs.Round.{seenRound, shownTo}
+use Rattle.parts.specs.Round.{seenRound, shownTo}
 
 -- an event is told and does the same by what it is shown, v, and by what there is to see, w
 pub record Enough (e : Event) (v w : Seen) : Type 0 where

@@ -7,11 +7,6 @@ ghost use Rattle.event.specs.declared.Event.the-variants.{Command, Data, Status
 ghost use Rattle.chain.specs.Events.{accepted, eventOf};
 ghost use Rattle.chain.specs.Sound.{sound};
 ghost use Rattle.image.specs.Reading.{chainIn, isImage};
-use crate::apply::apply;
-use crate::apply::looked_at;
-use crate::apply::seen_round;
-use crate::apply::walked;
-use crate::places::count_event;
 use decide::Change;
 use decide::Look;
 use decide::tests::bus_verdict;
@@ -24,6 +19,11 @@ use decide::tests::rise_verdict;
 use event::Event;
 use image::places::COUNT;
 use image::reading::response_in;
+use parts::apply::apply;
+use parts::apply::looked_at;
+use parts::apply::seen_round;
+use parts::apply::walked;
+use parts::places::count_event;
 use refusal::Answer;
 use refusal::Verdict;
 

@@ -1,8 +1,7 @@
-// The eight events on an image where it lies: what an event looks at is read off the image, and what is decided is applied to it, so that no chain is copied from event
-// to event. `on` is for a run, which has seen that the bytes are an image and its chain is sound.
-mod apply;
+// The eight events on an image where it lies: an event is shown what it looks at, and what is decided is applied there, so that no chain is copied from event to event.
+// No rule stands here: where an event looks, its tests and its change are decide's.
+// `on` is for a run, which has seen that the bytes are an image and its chain is sound.
 mod events;
-mod places;
 
 ghost use mathlib.Core.Bool.{true};
 ghost use mathlib.Core.Path.{_≡_};

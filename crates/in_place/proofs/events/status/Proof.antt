@@ -9,7 +9,7 @@ use Rattle.image.specs.Reading.{chainIn}
 use Rattle.in_place.proofs.Shown.{does, lands, declines}
 use Rattle.response.specs.declared.Walk.{Walk}
 use Rattle.chain.specs.Walk.{walkedTo}
-use Rattle.in_place.specs.Round.{seenRound}
+use Rattle.parts.specs.Round.{seenRound}
 use Rattle.in_place.proofs.events.status.Statement.{statement}
 use Rattle.in_place.proofs.events.status.Tie as tie
 

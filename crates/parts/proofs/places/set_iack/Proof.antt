@@ -1,0 +1,29 @@
+-- `parts::places::set_iack` meets its contract.
+-- Assumes nothing.
+use mathlib.Core.Path.{ap, _∙_}
+use native.Mathlib.Omega.{arith}
+use lib.ListN.{set}
+use borrow.Author.Needs.{needs}
+use Rattle.image.specs.Reading.{chainIn, isImage}
+use Rattle.image.proofs.OneToOne.{image-length}
+use Rattle.parts.proofs.Parts.{iack-set}
+use Rattle.parts.proofs.places.set_iack.Statement.{statement}
+use Rattle.parts.proofs.places.set_iack.Tie as tie
+
+digit-of-requires : tie.Need-digit-of-requires
+digit-of-requires c κs = search needs
+
+slice-write-image : tie.Need-slice-write-image
+slice-write-image c = omega (arith, image-length (c .before .before .args .image .now) (c .before .before .pre))
+
+same-length : tie.Need-same-length
+same-length c = search needs
+
+returns : tie.Need-returns
+returns c =
+    let held = iack-set (c .before .before .args .image .now) (c .before .before .args .high) (c .before .before .pre) in
+    let written = ap (set (c .before .before .args .image .now) 2) (c .digit-of .ensures .0) in
+    (ap isImage written ∙ held .image, ap chainIn written ∙ held .holds-it)
+
+pub set-iack-spec : {M : Type 1} → statement M
+set-iack-spec = tie.close (tie.spec digit-of-requires slice-write-image same-length returns)
