@@ -1,5 +1,5 @@
 -- When an event is refused (document 01, "Numbers handed back"): each test of the table with its refusal, over what the test looks at, and which of them each
--- event takes. (1, chain not sound, comes before all others: `chain/specs/Events`.)
+-- event takes. (1, chain not sound, comes before all others: `chain/specs/Refusals`.)
 use mathlib.Core.Bool.{Bool, not}
 use mathlib.Core.List.{List, [], _∷_}
 use Prim.Native.Nat.{ℕ}
