@@ -2,7 +2,7 @@
 // goes past them one by one.
 ghost use mathlib.Core.Path.{_≡_};
 ghost use Prim.Native.Nat.{_<_};
-ghost use Rattle.response.specs.Walk.{eoOf, atFirst, past, answersFirst};
+ghost use Rattle.response.specs.Walk.{eoOf, beforeTheFirst, past, answersFirst};
 use crate::Response;
 use crate::Walk;
 use chip::Chip;
@@ -19,7 +19,7 @@ impl Response {
 impl Walk {
     // Before chip 0, whose EI is the chain's.
     pub fn at_first(enable: bool) -> Walk
-        ensures { λ r. ⌜ r ≡ atFirst enable ⌝ }
+        ensures { λ r. ⌜ r ≡ beforeTheFirst enable ⌝ }
     {
         Walk {
             at: 0,
