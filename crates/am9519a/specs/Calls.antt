@@ -1,35 +1,30 @@
 -- The C calls over a chain image: the number that each hands back, and what the lent buffers hold afterwards.
 -- A call is the model's call between reading the image and writing it. A refused call leaves every buffer as it was.
-use mathlib.Core.Bool.{Bool, not, cond}
+use mathlib.Core.Bool.{cond}
 use mathlib.Core.List.{List, [], _∷_}
 use Prim.Native.Nat.{ℕ, _/_, _%_}
 use lib.Dec.{eqb, ltb}
 use lib.ListN.{length}
-use Rattle.refusal.specs.Numbers.{verdictNumber, isAccepted, firstOf}
-use Rattle.refusal.specs.declared.Refusal.{Refusal}
+use Rattle.refusal.specs.Answers.{verdictIn}
+use Rattle.refusal.specs.Numbers.{verdictNumber, isAccepted}
 use Rattle.refusal.specs.declared.Refusal.the-variants.{NotSound, ShortResults}
 use Rattle.refusal.specs.declared.Verdict.{Verdict}
-use Rattle.refusal.specs.declared.Verdict.the-variants.{Refused}
-use Rattle.refusal.specs.Answers.{verdictIn}
+use Rattle.refusal.specs.declared.Verdict.the-variants.{Accepted, Refused}
 use Rattle.chain.specs.Fields.{zeroChain}
-use Rattle.decide.specs.Refusals.{noSuchChip}
-use Rattle.chain.specs.Refusals.{notSound}
 use Rattle.chain.specs.Start.{startOf}
 use Rattle.chain.specs.declared.Chain.{Chain}
-use Rattle.views.specs.Views.{tableOf, pictureOf}
+use Rattle.views.specs.Views.{registerView, pinView}
+use Rattle.views.specs.declared.PinView.{PinView}
 use Rattle.views.specs.declared.Pins.{Pins}
+use Rattle.views.specs.declared.RegisterView.{RegisterView}
 use Rattle.views.specs.declared.Registers.{Registers}
-use Rattle.run.specs.Run.{Report, brokenEvent, shortResults, runOf}
+use Rattle.run.specs.Run.{Report, beforeAny, runOf}
 use Rattle.image.specs.Layout.{imageOf, over}
 use Rattle.image.specs.Reading.{chainIn, isImage}
 
--- 1: not 528 bytes, or not of the form
-abbrev pub notAnImage : List ℕ → Bool × Refusal
-notAnImage image = (not (isImage image), NotSound)
-
--- 11: a lent buffer under so many bytes
-abbrev pub shortBuffer : ℕ → List ℕ → Bool × Refusal
-shortBuffer n buffer = (ltb (length buffer) n, ShortResults)
+-- the chain in an image; what is no image, of another length than 528 or not of the form, is refused as a chain that is not sound
+abbrev pub chainOf : List ℕ → Chain
+chainOf image = cond (isImage image) (chainIn image) zeroChain
 
 -- a call that hands back a number and leaves a buffer
 pub record Called : Type 0 where
@@ -58,29 +53,25 @@ abbrev pub pictureBytes : Pins → List ℕ
 pictureBytes p =
     p .event % 256 ∷ p .event / 256 ∷ p .ei ∷ p .eo ∷ p .gint ∷ p .rip ∷ p .pause ∷ p .iack ∷ []
 
--- a view into a buffer of at least n bytes: 1, 2 and 11
-abbrev pub viewCheck : ℕ → List ℕ → ℕ → List ℕ → Verdict
-viewCheck n image chip view =
-    firstOf (notAnImage image ∷ notSound (chainIn image) ∷ noSuchChip (chainIn image .count) chip ∷ shortBuffer n view ∷ [])
-
--- the chain in an image; where there is none, one that is not sound
-abbrev pub chainOf : List ℕ → Chain
-chainOf image = cond (isImage image) (chainIn image) zeroChain
-
--- what a view with its verdict leaves: its bytes, where the buffer has room for them
+-- what a view leaves: its own refusals, then 11: a lent buffer under so many bytes as it has; accepted, it writes them over the first ones
 unfoldable pub viewed : Verdict → List ℕ → List ℕ → Called
 viewed verdict bytes view =
-    called (cond (isAccepted verdict) (firstOf (shortBuffer (length bytes) view ∷ [])) verdict) view (over view 0 bytes)
+    called
+    (cond (isAccepted verdict) (cond (ltb (length view) (length bytes)) (Refused ShortResults) Accepted) verdict)
+    view
+    (over view 0 bytes)
 
 -- registers: the view's first nine bytes get the table of the chip
 unfoldable pub registersCall : List ℕ → ℕ → List ℕ → Called
 registersCall image chip view =
-    called (viewCheck 9 image chip view) view (over view 0 (tableBytes (tableOf chip (chainIn image))))
+    let seen : RegisterView = registerView chip (chainOf image) in
+    viewed (seen .verdict) (tableBytes (seen .table)) view
 
 -- pins: the view's first eight bytes get the picture of the chip
 unfoldable pub pinsCall : List ℕ → ℕ → List ℕ → Called
 pinsCall image chip view =
-    called (viewCheck 8 image chip view) view (over view 0 (pictureBytes (pictureOf chip (chainIn image))))
+    let seen : PinView = pinView chip (chainOf image) in
+    viewed (seen .verdict) (pictureBytes (seen .picture)) view
 
 -- a run's number, and the image, the results and the accepted count afterwards
 pub record RunCalled : Type 0 where
@@ -93,15 +84,10 @@ pub record RunCalled : Type 0 where
 abbrev pub runLeft : ℕ → List ℕ → List ℕ → ℕ → RunCalled
 runLeft number image results accepted = record { number = number; image = image; results = results; accepted = accepted }
 
--- what a run takes before any event: 1, 10 and 11
-abbrev pub runCheck : List ℕ → List ℕ → List ℕ → Verdict
-runCheck image events results =
-    firstOf (notAnImage image ∷ notSound (chainIn image) ∷ brokenEvent events ∷ shortResults events results ∷ [])
-
--- where that is accepted, the model's run, also one that is refused at an event; otherwise nothing is written
+-- where nothing refuses it before any event, the model's run, also one that is refused at an event; otherwise nothing is written
 unfoldable pub runCall : List ℕ → List ℕ → ℕ → List ℕ → ℕ → RunCalled
 runCall image events limit results accepted =
-    let r : Report = runOf (chainIn image) events limit results in
-    cond (isAccepted (runCheck image events results))
+    let r : Report = runOf (chainOf image) events limit results in
+    cond (isAccepted (beforeAny (chainOf image) events results))
     (runLeft (verdictNumber (r .ran .verdict)) (imageOf (r .ran .chain)) (r .results) (r .ran .accepted))
-    (runLeft (verdictNumber (runCheck image events results)) image results accepted)
+    (runLeft (verdictNumber (r .ran .verdict)) image results accepted)

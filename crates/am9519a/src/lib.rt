@@ -10,7 +10,6 @@ use crate::shown::picture_bytes;
 use crate::shown::put_view;
 use crate::shown::table_bytes;
 use chain::Chain;
-use image::reading::chain_in;
 use image::writing::put_chain;
 use run::on_image::run_in;
 use views::pin_view;
@@ -58,10 +57,7 @@ pub extern "C" fn am9519a_run(
     ensures { λ r. ⌜ runLeft r (now (image .exit)) (now (results .exit)) (now (accepted .exit))
         ≡ runCall (now (image .entry)) (now (events .entry)) limit (now (results .entry)) (now (accepted .entry)) ⌝ }
 {
-    if !image::is_image(image) {
-        return 1;
-    }
-    let verdict = run::before_any(chain_in(image), events.len(), results.len());
+    let verdict = run::before_any(chain_of(image), events.len(), results.len());
     if !verdict.is_accepted() {
         return verdict.number();
     }

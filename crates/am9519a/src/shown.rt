@@ -1,4 +1,4 @@
-// The chain that a view is of, the bytes of a view, and a view into a lent buffer.
+// The chain that a call is about, the bytes of a view, and a view into a lent buffer.
 ghost use mathlib.Core.Path.{_≡_};
 ghost use Rattle.am9519a.specs.Calls.{chainOf, viewed, tableBytes, pictureBytes};
 use chain::Chain;

@@ -5,7 +5,7 @@ use Rattle.chip.proofs.Rules.{chipRules}
 use Rattle.decide.proofs.Rules.{decisions}
 use Rattle.chain.specs.Apply.{replacedIn, setIn, applied, decision, changed, counted}
 use Rattle.chain.specs.Events.{accepted, refused, judged, eventOf}
-use Rattle.chain.specs.Fields.{withChips, withChip, withEnable, withIack, withResponse, withEvent, zeroChain}
+use Rattle.chain.specs.Fields.{withChips, withChip, withOwn, withEvent, zeroChain}
 use Rattle.chain.specs.Pins.{ei}
 use Rattle.chain.specs.Refusals.{verdictOf}
 use Rattle.chain.specs.Seen.{seenAt, selected}
@@ -15,7 +15,7 @@ use Rattle.chain.specs.Walk.{answeringChip}
 
 -- a chain with one field replaced, as a record
 unfoldable pub chainFields : Unit {0}
-unfolding withChips withChip withEnable withIack withResponse withEvent zeroChain
+unfolding withChips withChip withOwn withEvent zeroChain
 chainFields = tt
 
 -- a chain with a change applied, as a record

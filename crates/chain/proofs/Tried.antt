@@ -1,19 +1,19 @@
 -- The definitions of a chain tried where no event list from a start leads: refused starts, records that are not sound, absent chips.
 -- Assumes nothing.
-use mathlib.Core.Bool.{true, false}
+use mathlib.Core.Bool.{Bool, true, false}
 use mathlib.Core.Path.{_≡_, refl}
 use Prim.Native.Nat.{ℕ}
 use Rattle.chip.specs.Fields.{withPointer}
 use Rattle.chip.specs.Reset.{powerUp}
 use Rattle.refusal.specs.Answers.{handed}
 use Rattle.chain.specs.Events.{eventOf}
-use Rattle.chain.specs.Fields.{withChip, withIack, withResponse, zeroChain}
+use Rattle.chain.specs.Fields.{withChip, withOwn, zeroChain}
 use Rattle.chain.specs.Sound.{sound}
 use Rattle.chain.specs.Start.{started, startOf}
 use Rattle.chain.specs.declared.Chain.{Chain}
 use Rattle.event.specs.declared.Event.{Event}
 use Rattle.event.specs.declared.Event.the-variants.{Command, Data, Line, Fall}
-use Rattle.response.specs.declared.Response.the-variants.{UnderWay}
+use Rattle.response.specs.declared.Response.the-variants.{Idle, UnderWay}
 use Rattle.chain.proofs.Rules.{rules}
 
 -- starts: 0 and 9 chips are refused by 1, with the chain of count 0; 1 and 8 are sound
@@ -39,15 +39,15 @@ unfolding rules
 pointers = (refl, refl)
 
 -- two chips with a response of chip 1 that has delivered so many of its two bytes
-abbrev pair : ℕ → Chain
-pair delivered = withResponse (UnderWay (record { chip = 1; channel = 7; level = 0; length = 2; delivered = delivered })) (started 2 0)
+abbrev pair : Bool → ℕ → Chain
+pair iack delivered = withOwn true iack (UnderWay (record { chip = 1; channel = 7; level = 0; length = 2; delivered = delivered })) (started 2 0)
 
 -- at least 1 byte, at most the length with IACK low, fewer with IACK high
 deliveries :
-    (sound (pair 0) ≡ false)
-    × (sound (pair 1) ≡ true)
-    × (sound (pair 2) ≡ false)
-    × (sound (withIack false (pair 2)) ≡ true)
+    (sound (pair true 0) ≡ false)
+    × (sound (pair true 1) ≡ true)
+    × (sound (pair true 2) ≡ false)
+    × (sound (pair false 2) ≡ true)
 unfolding rules
 deliveries = (refl, refl, refl, refl)
 
@@ -56,15 +56,15 @@ numberOf e s = handed (eventOf e s .answer) .number
 
 -- where several refusals apply, the first of the table is given: 2 before 5 and 7, 5 before 7, 3 before 4
 orders :
-    (numberOf (Command 2 0x01) (withIack false (started 2 0)) ≡ 2)
-    × (numberOf (Command 1 0x01) (withIack false (started 2 0)) ≡ 5)
+    (numberOf (Command 2 0x01) (withOwn true false Idle (started 2 0)) ≡ 2)
+    × (numberOf (Command 1 0x01) (withOwn true false Idle (started 2 0)) ≡ 5)
     × (numberOf (Line 1 8 2) (started 2 0) ≡ 3)
 unfolding rules
 orders = (refl, refl, refl)
 
 -- a line moves during a pulse too, so its bad level is 4; a data write without destination is 8
 others :
-    (numberOf (Line 1 7 2) (withIack false (started 2 0)) ≡ 4)
+    (numberOf (Line 1 7 2) (withOwn true false Idle (started 2 0)) ≡ 4)
     × (numberOf (Data 1 0x00) (started 2 0) ≡ 8)
 unfolding rules
 others = (refl, refl)

@@ -5,7 +5,7 @@ use Rattle.event.specs.declared.Event.{Event}
 use Rattle.refusal.specs.declared.Answer.{Answer}
 use Rattle.decide.specs.Decided.{decided}
 use Rattle.decide.specs.declared.Change.{Change}
-use Rattle.chain.specs.Fields.{withChip, withEnable, withIack, withEvent, withResponse}
+use Rattle.chain.specs.Fields.{withChip, withOwn, withEvent}
 use Rattle.chain.specs.Seen.{seenBy}
 use Rattle.chain.specs.declared.Chain.{Chain}
 
@@ -15,7 +15,7 @@ replacedIn c s = cond (c .replaces) (withChip (c .at) (c .chip) s) s
 
 -- the chain's own fields, if they are set
 unfoldable pub setIn : Change → Chain → Chain
-setIn c s = cond (c .sets) (withIack (c .iack) (withEnable (c .enable) (withResponse (c .response) s))) s
+setIn c s = cond (c .sets) (withOwn (c .enable) (c .iack) (c .response) s) s
 
 unfoldable pub applied : Change → Chain → Chain
 applied c s = setIn c (replacedIn c s)

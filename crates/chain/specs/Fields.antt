@@ -1,4 +1,4 @@
--- A chain with one field replaced, and one of its chips. antt has no record update, so the whole record is spelt out here, and besides in Start alone.
+-- A chain with its own fields, its event number or one of its chips replaced. antt has no record update, so the whole record is spelt out here, and besides in Start alone.
 use mathlib.Core.Bool.{Bool, false}
 use mathlib.Core.List.{List}
 use Prim.Native.Nat.{ℕ}
@@ -13,17 +13,10 @@ unfoldable pub withChips : List Chip → Chain → Chain
 withChips new s =
     record { count = s .count; chips = new; enable = s .enable; iack = s .iack; response = s .response; event = s .event }
 
-unfoldable pub withEnable : Bool → Chain → Chain
-withEnable new s =
-    record { count = s .count; chips = s .chips; enable = new; iack = s .iack; response = s .response; event = s .event }
-
-unfoldable pub withIack : Bool → Chain → Chain
-withIack new s =
-    record { count = s .count; chips = s .chips; enable = s .enable; iack = new; response = s .response; event = s .event }
-
-unfoldable pub withResponse : Response → Chain → Chain
-withResponse new s =
-    record { count = s .count; chips = s .chips; enable = s .enable; iack = s .iack; response = new; event = s .event }
+-- the chain's own fields: Enable In, IACK and the response
+unfoldable pub withOwn : Bool → Bool → Response → Chain → Chain
+withOwn enable iack response s =
+    record { count = s .count; chips = s .chips; enable = enable; iack = iack; response = response; event = s .event }
 
 unfoldable pub withEvent : ℕ → Chain → Chain
 withEvent new s =

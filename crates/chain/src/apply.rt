@@ -56,10 +56,7 @@ impl Chain {
             return self;
         }
         let response = change.response;
-        let mut next = self.with_response(response);
-        next.enable = change.enable;
-        next.iack = change.iack;
-        next
+        self.with_own(change.enable, change.iack, response)
     }
 
     // What is decided.

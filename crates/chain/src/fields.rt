@@ -2,7 +2,7 @@
 ghost use mathlib.Core.Path.{_≡_};
 ghost use Rattle.chain.specs.Apply.{counted};
 ghost use Rattle.chain.specs.Events.{accepted, refused};
-ghost use Rattle.chain.specs.Fields.{chipAt, withChip, withResponse, zeroChain};
+ghost use Rattle.chain.specs.Fields.{chipAt, withChip, withOwn, zeroChain};
 use crate::Chain;
 use crate::Outcome;
 use chip::Chip;
@@ -50,16 +50,16 @@ impl Chain {
         self
     }
 
-    // The chain with another response. (A field that is an enum cannot be stored to, so the record is written anew, in this one place.)
-    pub(crate) fn with_response(self, response: Response) -> Chain
-        ensures { λ r. ⌜ r ≡ withResponse response self ⌝ }
+    // The chain with its own fields set: Enable In, IACK and the response. (A field that is an enum cannot be stored to, so the record is written anew.)
+    pub(crate) fn with_own(self, enable: bool, iack: bool, response: Response) -> Chain
+        ensures { λ r. ⌜ r ≡ withOwn enable iack response self ⌝ }
     {
         let chips = self.chips;
         Chain {
             count: self.count,
             chips: chips,
-            enable: self.enable,
-            iack: self.iack,
+            enable: enable,
+            iack: iack,
             response: response,
             event: self.event,
         }

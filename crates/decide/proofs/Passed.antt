@@ -16,7 +16,7 @@ use Rattle.event.specs.Numbers.{inNumbers}
 use Rattle.event.specs.declared.Event.{Event}
 use Rattle.event.specs.declared.Event.the-variants.{Command, Data, Status, Read, Line, Enable, Fall, Rise}
 use Rattle.chip.specs.Data.{isPastItsCount}
-use Rattle.decide.specs.Refusals.{noSuchChip, noSuchChannel, noSuchLevel, pulseUnderWay, undefinedCommand, noDestination, pastItsCount, checks, verdictOn}
+use Rattle.decide.specs.Refusals.{noSuchChip, noSuchChannel, noSuchLevel, pulseUnderWay, undefinedCommand, noDestination, pastItsCount, verdictOn}
 use Rattle.decide.specs.declared.Seen.{Seen}
 
 -- tests of which the first is that of the chip: accepted, the chip is below the count

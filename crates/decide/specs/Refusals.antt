@@ -32,11 +32,8 @@ abbrev pub pulseUnderWay : Bool → Bool × Refusal
 pulseUnderWay iack = (not iack, PulseUnderWay)
 
 -- 6: IACK already at that level
-abbrev pub iackIsLow : Bool → Bool × Refusal
-iackIsLow iack = (not iack, IackThereAlready)
-
-abbrev pub iackIsHigh : Bool → Bool × Refusal
-iackIsHigh iack = (iack, IackThereAlready)
+abbrev pub iackThereAlready : Bool → Bool × Refusal
+iackThereAlready there = (there, IackThereAlready)
 
 -- 7: undefined command
 abbrev pub undefinedCommand : ℕ → Bool × Refusal
@@ -58,8 +55,8 @@ checks (Status i) v = noSuchChip (v .count) (v .at) ∷ pulseUnderWay (v .iack) 
 checks (Read i) v = noSuchChip (v .count) (v .at) ∷ pulseUnderWay (v .iack) ∷ []
 checks (Line i channel level) v = noSuchChip (v .count) (v .at) ∷ noSuchChannel channel ∷ noSuchLevel level ∷ []
 checks (Enable level) v = noSuchLevel level ∷ []
-checks Fall v = iackIsLow (v .iack) ∷ []
-checks Rise v = iackIsHigh (v .iack) ∷ []
+checks Fall v = iackThereAlready (not (v .iack)) ∷ []
+checks Rise v = iackThereAlready (v .iack) ∷ []
 
 -- the first that applies, or accepted
 abbrev pub verdictOn : Event → Seen → Verdict

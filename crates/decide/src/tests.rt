@@ -1,8 +1,9 @@
 // When an event on a sound chain is refused: the tests of the table, in its order, over what the event looks at.
+ghost use mathlib.Core.Bool.{not};
 ghost use mathlib.Core.List.{[], _∷_};
 ghost use mathlib.Core.Path.{_≡_};
 ghost use Rattle.refusal.specs.Numbers.{firstOf};
-ghost use Rattle.decide.specs.Refusals.{noSuchChip, noSuchChannel, noSuchLevel, pulseUnderWay, iackIsLow, iackIsHigh, undefinedCommand, noDestination, pastItsCount, verdictOn};
+ghost use Rattle.decide.specs.Refusals.{noSuchChip, noSuchChannel, noSuchLevel, pulseUnderWay, iackThereAlready, undefinedCommand, noDestination, pastItsCount, verdictOn};
 use crate::Seen;
 use chip::Chip;
 use chip::Meaning;
@@ -110,7 +111,7 @@ pub fn level_verdict(level: u8) -> Verdict
 
 // IACK falls: it is low already.
 pub fn fall_verdict(iack: bool) -> Verdict
-    ensures { λ r. ⌜ r ≡ firstOf (iackIsLow iack ∷ []) ⌝ }
+    ensures { λ r. ⌜ r ≡ firstOf (iackThereAlready (not iack) ∷ []) ⌝ }
 {
     if !iack {
         return Verdict::Refused(Refusal::IackThereAlready);
@@ -120,7 +121,7 @@ pub fn fall_verdict(iack: bool) -> Verdict
 
 // IACK rises: it is high already.
 pub fn rise_verdict(iack: bool) -> Verdict
-    ensures { λ r. ⌜ r ≡ firstOf (iackIsHigh iack ∷ []) ⌝ }
+    ensures { λ r. ⌜ r ≡ firstOf (iackThereAlready iack ∷ []) ⌝ }
 {
     if iack {
         return Verdict::Refused(Refusal::IackThereAlready);

@@ -18,6 +18,8 @@ use Rattle.refusal.specs.declared.Verdict.the-variants.{Accepted, Refused}
 use Rattle.views.specs.Views.{tableOf, pictureOf}
 use Rattle.decide.specs.Refusals.{noSuchChip}
 use Rattle.chain.specs.Refusals.{notSound}
+use Rattle.chain.proofs.Rules.{rules}
+use Rattle.chain.specs.Fields.{zeroChain}
 use Rattle.chain.specs.Sound.{sound, countSound}
 use Rattle.chain.specs.Start.{startOf}
 use Rattle.chain.specs.declared.Chain.{Chain}
@@ -30,9 +32,12 @@ use Rattle.image.proofs.OneToOne.{one-to-one}
 use Rattle.image.specs.Layout.{head, imageOf, over}
 use Rattle.image.specs.OneToOne.{Whole}
 use Rattle.image.specs.Reading.{byte, chainIn, isImage}
-use Rattle.am9519a.specs.Calls.{RunCalled, notAnImage, shortBuffer, called, viewCheck, runCheck, tableBytes, pictureBytes, startCall, runCall, registersCall, pinsCall}
+use Rattle.am9519a.proofs.Seen.{notAnImage, shortBuffer, viewCheck, registers-called, pins-called}
+use Rattle.am9519a.proofs.Told.{run-ready, run-done}
+use Rattle.am9519a.proofs.Told as told
+use Rattle.am9519a.specs.Calls.{Called, RunCalled, called, chainOf, tableBytes, pictureBytes, startCall, runLeft, runCall, registersCall, pinsCall}
 use Rattle.demands.specs.Agree.{Agree}
-use Rattle.demands.specs.FromC.{isBeforeAny, noImage, Left, FromC, BytesAgree, AsTheModel}
+use Rattle.demands.specs.FromC.{isBeforeAny, noImage, viewEntries, Left, FromC, BytesAgree, AsTheModel}
 use Rattle.event.specs.Numbers.{Numbered}
 use Rattle.demands.specs.Table.{Entry, given, runEntries, listedEntries, lastEntries, fourBytes}
 use Rattle.demands.proofs.Agree.{one-state}
@@ -57,6 +62,10 @@ is-accepted : (v : Verdict) (old new : List ℕ) → called v old new .number �
 unfolding called
 is-accepted Accepted old new e = refl
 is-accepted (Refused why) old new e = absurd (not-zero why e)
+
+called-by : (v : Verdict) (old new : List ℕ) → called v old new .number ≡ verdictNumber v
+unfolding called
+called-by v old new = refl
 
 -- a start
 start-number : (count fill : ℕ) (image : List ℕ)
@@ -104,14 +113,13 @@ bytes-agree t p table picture a =
     }
 
 -- a run: which numbers come before any event
-before-first : (a b c d : Bool)
-    → isBeforeAny (verdictNumber (firstOf ((a, NotSound) ∷ (b, NotSound) ∷ (c, BrokenEvent) ∷ (d, ShortResults) ∷ [])))
-    ≡ not (isAccepted (firstOf ((a, NotSound) ∷ (b, NotSound) ∷ (c, BrokenEvent) ∷ (d, ShortResults) ∷ [])))
-before-first true b c d = refl
-before-first false true c d = refl
-before-first false false true d = refl
-before-first false false false true = refl
-before-first false false false false = refl
+before-first : (a b c : Bool)
+    → isBeforeAny (verdictNumber (firstOf ((a, NotSound) ∷ (b, BrokenEvent) ∷ (c, ShortResults) ∷ [])))
+    ≡ not (isAccepted (firstOf ((a, NotSound) ∷ (b, BrokenEvent) ∷ (c, ShortResults) ∷ [])))
+before-first true b c = refl
+before-first false true c = refl
+before-first false false true = refl
+before-first false false false = refl
 
 -- entries of which none that applies is 1, 10 or 11
 abbrev Later : List Entry → Type 0
@@ -122,11 +130,6 @@ later-given : (l : List Entry) → Later l → isBeforeAny (given l) ≡ false
 later-given [] h = refl
 later-given ((n, true) ∷ l) h = h .0 refl
 later-given ((n, false) ∷ l) h = later-given l (h .1)
-
-before-number : (image events results : List ℕ) → isAccepted (runCheck image events results) ≡ false
-    → isBeforeAny (verdictNumber (runCheck image events results)) ≡ true
-before-number image events results off =
-    before-first (not (isImage image)) (not (sound (chainIn image))) (brokenEvent events .0) (shortResults events results .0) ∙ ap not off
 
 -- of a sound chain no event is refused by one of them
 listed-later : (e : Numbered) (s : Chain) → sound s ≡ true → Later (listedEntries e s)
@@ -143,11 +146,11 @@ run-later : (s : Chain) (events : List ℕ) (limit : ℕ) (results : List ℕ) �
 unfolding beforeAny
 run-later s events limit results on =
     let is : sound s ≡ true = before-any.before-sound s events results on in
-    let rest : firstOf (brokenEvent events ∷ shortResults events results ∷ []) ≡ Accepted =
-    passed-rest (not (sound s)) NotSound (brokenEvent events ∷ shortResults events results ∷ []) (accepted-is _ on) in
-    let whole : brokenEvent events .0 ≡ false = passed-first (brokenEvent events .0) BrokenEvent (shortResults events results ∷ []) rest in
-    let room : shortResults events results .0 ≡ false =
-    passed-first (shortResults events results .0) ShortResults [] (passed-rest (brokenEvent events .0) BrokenEvent (shortResults events results ∷ []) rest) in
+    let rest : firstOf (brokenEvent (length events) ∷ shortResults (length events) (length results) ∷ []) ≡ Accepted =
+    passed-rest (not (sound s)) NotSound (brokenEvent (length events) ∷ shortResults (length events) (length results) ∷ []) (accepted-is _ on) in
+    let whole : brokenEvent (length events) .0 ≡ false = passed-first (brokenEvent (length events) .0) BrokenEvent (shortResults (length events) (length results) ∷ []) rest in
+    let room : shortResults (length events) (length results) .0 ≡ false =
+    passed-first (shortResults (length events) (length results) .0) ShortResults [] (passed-rest (brokenEvent (length events) .0) BrokenEvent (shortResults (length events) (length results) ∷ []) rest) in
     let r : Report = runOf s events limit results in (
       λ a. not-both (sym (ap not is) ∙ a),
       (
@@ -161,44 +164,51 @@ run-later s events limit results on =
       ),
     )
 
--- what a run takes before any event, of an image
-of-image : (image events results : List ℕ) → isImage image ≡ true → runCheck image events results ≡ beforeAny (chainIn image) events results
+at-event-number : (s : Chain) (events : List ℕ) (limit : ℕ) (results : List ℕ) → isAccepted (beforeAny s events results) ≡ true
+    → isBeforeAny (verdictNumber (runOf s events limit results .ran .verdict)) ≡ false
+at-event-number s events limit results on =
+    ap isBeforeAny (by-the-table .run s events limit results)
+    ∙ later-given (runEntries s events results ++ lastEntries events (min limit (length events / 4)) (runOf s events limit results))
+    (run-later s events limit results on)
+
+-- a run from C: 1, 10 and 11 leave everything, and otherwise it is the model's run on the chain in the image
+run-called : (P : RunCalled → Type 0) (image events : List ℕ) (limit : ℕ) (results : List ℕ) (accepted : ℕ)
+    → let r : Report = runOf (chainIn image) events limit results in
+    (isImage image ≡ true → isBeforeAny (verdictNumber (r .ran .verdict)) ≡ false
+    → P (runLeft (verdictNumber (r .ran .verdict)) (imageOf (r .ran .chain)) (r .results) (r .ran .accepted)))
+    → ((n : ℕ) → isBeforeAny n ≡ true → P (runLeft n image results accepted))
+    → P (runCall image events limit results accepted)
 unfolding beforeAny
-of-image image events results is =
-    ap (λ (b : Bool). cond (not b) (Refused NotSound) (firstOf (notSound (chainIn image) ∷ brokenEvent events ∷ shortResults events results ∷ []))) is
+run-called P image events limit results accepted goes stops = by (isAccepted (beforeAny (chainOf image) events results)) refl
+  where
+    v : Verdict
+    v = beforeAny (chainOf image) events results
 
-is-of-image : (image events results : List ℕ) → isAccepted (runCheck image events results) ≡ true → isImage image ≡ true
-is-of-image image events results on =
-    not-false (isImage image)
-    (passed-first (not (isImage image)) NotSound (notSound (chainIn image) ∷ brokenEvent events ∷ shortResults events results ∷ []) (accepted-is _ on))
-
-at-event-number : (image events : List ℕ) (limit : ℕ) (results : List ℕ) → isAccepted (runCheck image events results) ≡ true
-    → isBeforeAny (verdictNumber (runOf (chainIn image) events limit results .ran .verdict)) ≡ false
-at-event-number image events limit results on =
-    ap isBeforeAny (by-the-table .run (chainIn image) events limit results)
-    ∙ later-given (runEntries (chainIn image) events results ++ lastEntries events (min limit (length events / 4)) (runOf (chainIn image) events limit results))
-    (run-later (chainIn image) events limit results (ap isAccepted (sym (of-image image events results (is-of-image image events results on))) ∙ on))
+    by : (b : Bool) → isAccepted v ≡ b → P (runCall image events limit results accepted)
+    by true on =
+        let ready : (isImage image ≡ true) × (isAccepted (beforeAny (chainIn image) events results) ≡ true) = run-ready image events results v refl on in
+        subst P (sym (run-done image events limit results accepted v refl on)) (goes (ready .0) (at-event-number (chainIn image) events limit results (ready .1)))
+    by false off =
+        subst P (sym (told.run-refused image events limit results accepted v refl off))
+        (stops (verdictNumber v) (before-first (not (sound (chainOf image))) (brokenEvent (length events) .0) (shortResults (length events) (length results) .0) ∙ ap not off))
 
 run-refused : (image events : List ℕ) (limit : ℕ) (results : List ℕ) (accepted : ℕ)
     → isBeforeAny (runCall image events limit results accepted .number) ≡ true
     → Left (runCall image events limit results accepted) image results accepted
-unfolding runCall
 run-refused image events limit results accepted =
-    either (λ (c : RunCalled). isBeforeAny (c .number) ≡ true → Left c image results accepted) (isAccepted (runCheck image events results)) _ _
-    (λ on before. not-both (sym (at-event-number image events limit results on) ∙ before))
-    (λ off before. record { in-image = refl; in-results = refl; in-accepted = refl })
+    run-called (λ c. isBeforeAny (c .number) ≡ true → Left c image results accepted) image events limit results accepted
+    (λ is later before. not-both (sym later ∙ before))
+    (λ n is before. record { in-image = refl; in-results = refl; in-accepted = refl })
 
 run-goes : (image events : List ℕ) (limit : ℕ) (results : List ℕ) (accepted : ℕ)
     → isBeforeAny (runCall image events limit results accepted .number) ≡ false
     → let r : Report = runOf (chainIn image) events limit results in
     Left (runCall image events limit results accepted) (imageOf (r .ran .chain)) (r .results) (r .ran .accepted)
-unfolding runCall
 run-goes image events limit results accepted =
     let r : Report = runOf (chainIn image) events limit results in
-    either (λ (c : RunCalled). isBeforeAny (c .number) ≡ false → Left c (imageOf (r .ran .chain)) (r .results) (r .ran .accepted))
-    (isAccepted (runCheck image events results)) _ _
-    (λ on later. record { in-image = refl; in-results = refl; in-accepted = refl })
-    (λ off later. not-both (sym later ∙ before-number image events results off))
+    run-called (λ c. isBeforeAny (c .number) ≡ false → Left c (imageOf (r .ran .chain)) (r .results) (r .ran .accepted)) image events limit results accepted
+    (λ is later goes. record { in-image = refl; in-results = refl; in-accepted = refl })
+    (λ n is goes. not-both (sym goes ∙ is))
 
 -- the image of a whole chain is read back
 read-again : (s : Chain) → Whole s → (isImage (imageOf s) ≡ true) × (chainIn (imageOf s) ≡ s)
@@ -208,30 +218,32 @@ run-read : (image events : List ℕ) (limit : ℕ) (results : List ℕ) (accepte
     → isBeforeAny (runCall image events limit results accepted .number) ≡ false
     → (isImage (runCall image events limit results accepted .image) ≡ true)
     × (chainIn (runCall image events limit results accepted .image) ≡ runOf (chainIn image) events limit results .ran .chain)
-unfolding runCall
 run-read image events limit results accepted =
     let r : Report = runOf (chainIn image) events limit results in
-    either (λ (c : RunCalled). isBeforeAny (c .number) ≡ false → (isImage (c .image) ≡ true) × (chainIn (c .image) ≡ r .ran .chain))
-    (isAccepted (runCheck image events results)) _ _
-    (λ on later. read-again (r .ran .chain)
-    (run-whole (chainIn image) events limit results (one-to-one .read-whole image (is-of-image image events results on))))
-    (λ off later. not-both (sym later ∙ before-number image events results off))
+    run-called (λ c. isBeforeAny (c .number) ≡ false → (isImage (c .image) ≡ true) × (chainIn (c .image) ≡ r .ran .chain)) image events limit results accepted
+    (λ is later goes. read-again (r .ran .chain) (run-whole (chainIn image) events limit results (one-to-one .read-whole image is)))
+    (λ n is goes. not-both (sym goes ∙ is))
 
--- of an image, a run's number is that of the model's run
+-- a run's number is that of the model's run on the chain in the image, or on one that is not sound
+called-number : (image events : List ℕ) (limit : ℕ) (results : List ℕ) (accepted : ℕ)
+    → runCall image events limit results accepted .number ≡ verdictNumber (runOf (chainOf image) events limit results .ran .verdict)
+unfolding runCall
+called-number image events limit results accepted =
+    either (λ (c : RunCalled). c .number ≡ verdictNumber (runOf (chainOf image) events limit results .ran .verdict))
+    (isAccepted (beforeAny (chainOf image) events results)) _ _
+    (λ on. refl)
+    (λ off. refl)
+
 image-number : (image events : List ℕ) (limit : ℕ) (results : List ℕ) (accepted : ℕ) → isImage image ≡ true
     → runCall image events limit results accepted .number ≡ verdictNumber (runOf (chainIn image) events limit results .ran .verdict)
-unfolding runCall
 image-number image events limit results accepted is =
-    either (λ (c : RunCalled). c .number ≡ verdictNumber (runOf (chainIn image) events limit results .ran .verdict))
-    (isAccepted (runCheck image events results)) _ _
-    (λ on. refl)
-    (λ off. sym (ap (λ (r : Report). verdictNumber (r .ran .verdict))
-    (before-any.refused-before (chainIn image) events limit results (runCheck image events results) (of-image image events results is) off)))
+    called-number image events limit results accepted
+    ∙ ap (λ (b : Bool). verdictNumber (runOf (cond b (chainIn image) zeroChain) events limit results .ran .verdict)) is
 
 run-number : (image events : List ℕ) (limit : ℕ) (results : List ℕ) (accepted : ℕ)
     → runCall image events limit results accepted .number
     ≡ given (noImage image ∷ runEntries (chainIn image) events results ++ lastEntries events (min limit (length events / 4)) (runOf (chainIn image) events limit results))
-unfolding runCall
+unfolding rules beforeAny runOf
 run-number image events limit results accepted = by (isImage image) refl
   where
     entries : List Entry
@@ -242,7 +254,10 @@ run-number image events limit results accepted = by (isImage image) refl
         image-number image events limit results accepted is
         ∙ by-the-table .run (chainIn image) events limit results
         ∙ sym (ap (λ (b : Bool). cond (not b) 1 (given entries)) is)
-    by false is = simp is
+    by false is =
+        called-number image events limit results accepted
+        ∙ ap (λ (b : Bool). verdictNumber (runOf (cond b (chainIn image) zeroChain) events limit results .ran .verdict)) is
+        ∙ sym (ap (λ (b : Bool). cond (not b) 1 (given entries)) is)
 
 not-started : (count fill : ℕ) (image : List ℕ) → (startCall count fill image .number ≡ 0 → ⊥) → startCall count fill image .buffer ≡ image
 unfolding startCall
@@ -252,30 +267,33 @@ started : (count fill : ℕ) (image : List ℕ) → startCall count fill image .
 unfolding startCall
 started count fill image e = accepted-writes _ image (imageOf (startOf count fill .chain)) e
 
--- the views
-table-shown : (image : List ℕ) (chip : ℕ) (view : List ℕ) → registersCall image chip view .number ≡ 0
-    → registersCall image chip view .buffer ≡ over view 0 (tableBytes (tableOf chip (chainIn image)))
-unfolding registersCall
-table-shown image chip view e = accepted-writes (viewCheck 9 image chip view) view _ e
+-- what holds of a call for a view: what refuses it, and what it leaves
+record OfImage (n : ℕ) (image : List ℕ) (chip : ℕ) (view bytes : List ℕ) (c : Called) : Type 0 where
+  number : c .number ≡ given (viewEntries n image chip view)
+  refused : (c .number ≡ 0 → ⊥) → c .buffer ≡ view
+  rest : drop n (c .buffer) ≡ drop n view
+  shown : c .number ≡ 0 → c .buffer ≡ over view 0 bytes
+  of-a-chip : c .number ≡ 0 → (isImage image ≡ true) × ((sound (chainIn image) ≡ true) × (chip < chainIn image .count))
 
-picture-shown : (image : List ℕ) (chip : ℕ) (view : List ℕ) → pinsCall image chip view .number ≡ 0
-    → pinsCall image chip view .buffer ≡ over view 0 (pictureBytes (pictureOf chip (chainIn image)))
-unfolding pinsCall
-picture-shown image chip view e = accepted-writes (viewCheck 8 image chip view) view _ e
+of-image : (n : ℕ) (image : List ℕ) (chip : ℕ) (view bytes : List ℕ) (c : Called) → c ≡ called (viewCheck n image chip view) view (over view 0 bytes)
+    → length bytes ≡ n
+    → OfImage n image chip view bytes c
+of-image n image chip view bytes c is long =
+    subst (OfImage n image chip view bytes) (sym is)
+    (record {
+      number = called-by (viewCheck n image chip view) view (over view 0 bytes)
+          ∙ first-given (notAnImage image ∷ notSound (chainIn image) ∷ noSuchChip (chainIn image .count) chip ∷ shortBuffer n view ∷ []);
+      refused = refused-leaves (viewCheck n image chip view) view (over view 0 bytes);
+      rest = view-rest (viewCheck n image chip view) view bytes n long;
+      shown = accepted-writes (viewCheck n image chip view) view (over view 0 bytes);
+      of-a-chip = λ e. seen n image chip view (chainIn image) (is-accepted (viewCheck n image chip view) view (over view 0 bytes) e);
+    })
 
-table-seen : (image : List ℕ) (chip : ℕ) (view : List ℕ) → registersCall image chip view .number ≡ 0
-    → (isImage image ≡ true) × ((sound (chainIn image) ≡ true) × (chip < chainIn image .count))
-unfolding registersCall
-table-seen image chip view e =
-    seen 9 image chip view (chainIn image)
-    (is-accepted (viewCheck 9 image chip view) view (over view 0 (tableBytes (tableOf chip (chainIn image)))) e)
+table : (image : List ℕ) (chip : ℕ) (view : List ℕ) → OfImage 9 image chip view (tableBytes (tableOf chip (chainIn image))) (registersCall image chip view)
+table image chip view = of-image 9 image chip view (tableBytes (tableOf chip (chainIn image))) (registersCall image chip view) (registers-called image chip view) refl
 
-picture-seen : (image : List ℕ) (chip : ℕ) (view : List ℕ) → pinsCall image chip view .number ≡ 0
-    → (isImage image ≡ true) × ((sound (chainIn image) ≡ true) × (chip < chainIn image .count))
-unfolding pinsCall
-picture-seen image chip view e =
-    seen 8 image chip view (chainIn image)
-    (is-accepted (viewCheck 8 image chip view) view (over view 0 (pictureBytes (pictureOf chip (chainIn image)))) e)
+picture : (image : List ℕ) (chip : ℕ) (view : List ℕ) → OfImage 8 image chip view (pictureBytes (pictureOf chip (chainIn image))) (pinsCall image chip view)
+picture image chip view = of-image 8 image chip view (pictureBytes (pictureOf chip (chainIn image))) (pinsCall image chip view) (pins-called image chip view) refl
 
 head-event : (image : List ℕ) → isImage image ≡ true → (chainIn image .event % 256 ≡ byte image 3) × (chainIn image .event / 256 ≡ byte image 4)
 unfolding imageOf head
@@ -284,19 +302,18 @@ head-event image is =
     (ap (λ (b : List ℕ). byte b 3) again, ap (λ (b : List ℕ). byte b 4) again)
 
 pub from-c : FromC
-unfolding registersCall pinsCall called
 from-c =
     record {
       start-number = start-number;
       run-number = run-number;
-      registers-number = λ image chip view. first-given (notAnImage image ∷ notSound (chainIn image) ∷ noSuchChip (chainIn image .count) chip ∷ shortBuffer 9 view ∷ []);
-      pins-number = λ image chip view. first-given (notAnImage image ∷ notSound (chainIn image) ∷ noSuchChip (chainIn image .count) chip ∷ shortBuffer 8 view ∷ []);
+      registers-number = λ image chip view. table image chip view .number;
+      pins-number = λ image chip view. picture image chip view .number;
       start-refused = not-started;
       run-refused = run-refused;
-      registers-refused = λ image chip view other. refused-leaves (viewCheck 9 image chip view) view _ other;
-      pins-refused = λ image chip view other. refused-leaves (viewCheck 8 image chip view) view _ other;
-      registers-rest = λ image chip view. view-rest (viewCheck 9 image chip view) view (tableBytes (tableOf chip (chainIn image))) 9 refl;
-      pins-rest = λ image chip view. view-rest (viewCheck 8 image chip view) view (pictureBytes (pictureOf chip (chainIn image))) 8 refl;
+      registers-refused = λ image chip view. table image chip view .refused;
+      pins-refused = λ image chip view. picture image chip view .refused;
+      registers-rest = λ image chip view. table image chip view .rest;
+      pins-rest = λ image chip view. picture image chip view .rest;
     }
 
 pub as-the-model : AsTheModel
@@ -310,18 +327,18 @@ as-the-model =
           (read-again (startOf count fill .chain) (start-whole count fill));
       run-read = run-read;
       registers = λ image chip view e.
-          let h : (isImage image ≡ true) × ((sound (chainIn image) ≡ true) × (chip < chainIn image .count)) = table-seen image chip view e in
-          table-shown image chip view e
+          let h : (isImage image ≡ true) × ((sound (chainIn image) ≡ true) × (chip < chainIn image .count)) = table image chip view .of-a-chip e in
+          table image chip view .shown e
           ∙ sym (ap (λ (v : RegisterView). over view 0 (tableBytes (v .table))) (by-the-rules .table (chainIn image) chip (h .1 .0) (h .1 .1)));
       pins = λ image chip view e.
-          let h : (isImage image ≡ true) × ((sound (chainIn image) ≡ true) × (chip < chainIn image .count)) = picture-seen image chip view e in
-          picture-shown image chip view e
+          let h : (isImage image ≡ true) × ((sound (chainIn image) ≡ true) × (chip < chainIn image .count)) = picture image chip view .of-a-chip e in
+          picture image chip view .shown e
           ∙ sym (ap (λ (v : PinView). over view 0 (pictureBytes (v .picture))) (by-the-rules .picture (chainIn image) chip (h .1 .0) (h .1 .1)));
-      agree = λ image chip table picture e f.
-          subst (λ (b : List ℕ). BytesAgree b (pinsCall image chip picture .buffer)) (sym (table-shown image chip table e))
-          (subst (BytesAgree (over table 0 (tableBytes (tableOf chip (chainIn image))))) (sym (picture-shown image chip picture f))
-          (bytes-agree (tableOf chip (chainIn image)) (pictureOf chip (chainIn image)) table picture (one-state (chainIn image) chip)));
+      agree = λ image chip table-view picture-view e f.
+          subst (λ (b : List ℕ). BytesAgree b (pinsCall image chip picture-view .buffer)) (sym (table image chip table-view .shown e))
+          (subst (BytesAgree (over table-view 0 (tableBytes (tableOf chip (chainIn image))))) (sym (picture image chip picture-view .shown f))
+          (bytes-agree (tableOf chip (chainIn image)) (pictureOf chip (chainIn image)) table-view picture-view (one-state (chainIn image) chip)));
       event-of-image = λ image chip view e.
-          let h : (chainIn image .event % 256 ≡ byte image 3) × (chainIn image .event / 256 ≡ byte image 4) = head-event image (table-seen image chip view e .0) in
-          (ap (λ (b : List ℕ). byte b 0) (table-shown image chip view e) ∙ h .0, ap (λ (b : List ℕ). byte b 1) (table-shown image chip view e) ∙ h .1);
+          let h : (chainIn image .event % 256 ≡ byte image 3) × (chainIn image .event / 256 ≡ byte image 4) = head-event image (table image chip view .of-a-chip e .0) in
+          (ap (λ (b : List ℕ). byte b 0) (table image chip view .shown e) ∙ h .0, ap (λ (b : List ℕ). byte b 1) (table image chip view .shown e) ∙ h .1);
     }

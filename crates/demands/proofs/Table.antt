@@ -6,7 +6,7 @@ use mathlib.Core.Path.{_≡_, refl, ap, sym, subst, _∙_}
 use Prim.Native.Nat.{ℕ, zero, suc, _+_, _*_, _≤_, _<_, min}
 use native.Mathlib.Omega.{arith}
 use lib.Dec.{eqb, leb, ltb}
-use lib.ListN.{getD}
+use lib.ListN.{length, getD}
 use borrow.Author.Tests.{le-leb, lt-leb, leb-true, leb-false, ne-eqb, lt-ltb, le-ltb}
 use Rattle.search.proofs.Order.{candidate-lt}
 use Rattle.search.specs.Candidate.{candidate, candidateNumber, channelOf, searchNumber}
@@ -163,7 +163,7 @@ unfolding beforeAny
 run-number s bytes limit results = by (isAccepted (beforeAny s bytes results)) refl
   where
     tests : List (Bool × Refusal)
-    tests = notSound s ∷ brokenEvent bytes ∷ shortResults bytes results ∷ []
+    tests = notSound s ∷ brokenEvent (length bytes) ∷ shortResults (length bytes) (length results) ∷ []
 
     most : ℕ
     most = min limit (listLength bytes)

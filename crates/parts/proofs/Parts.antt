@@ -11,7 +11,7 @@ use lib.Seq.{drop-at, take-append-add, drop-append-add}
 use Rattle.bits.specs.Below.{digit}
 use Rattle.chip.specs.Fields.{zeroChip}
 use Rattle.chip.specs.declared.Chip.{Chip}
-use Rattle.chain.specs.Fields.{withChips, withChip, withEnable, withIack, withResponse, withEvent}
+use Rattle.chain.specs.Fields.{withChips, withChip, withOwn, withEvent}
 use Rattle.chain.specs.declared.Chain.{Chain}
 use Rattle.response.specs.declared.Response.{Response}
 use Rattle.response.specs.declared.Response.the-variants.{Idle, UnderWay}
@@ -65,18 +65,6 @@ chip-set b i c is new h =
     ∙ over-behind (head s) (records (s .chips)) (chipRecord c) (64 * i)
     ∙ ap (λ rest. head s ++ rest) (record-over (s .chips) i c new (λ k l. whole .whole-chips k (subst (λ n. k < n) (whole .eight-chips) l)) (omega (arith, h, whole .eight-chips))))
 
-pub enable-set : (b : List ℕ) (high : Bool) → isImage b ≡ true → Holds (set b 1 (digit high)) (withEnable high (chainIn b))
-unfolding imageOf head withEnable
-enable-set b high is =
-    holds (set b 1 (digit high)) (withEnable high (chainIn b)) (same-chips (chainIn b) (withEnable high (chainIn b)) refl (read-whole b (image-length b is)))
-    (ap (λ b. set b 1 (digit high)) (sym (written-back b is)))
-
-pub iack-set : (b : List ℕ) (high : Bool) → isImage b ≡ true → Holds (set b 2 (digit high)) (withIack high (chainIn b))
-unfolding imageOf head withIack
-iack-set b high is =
-    holds (set b 2 (digit high)) (withIack high (chainIn b)) (same-chips (chainIn b) (withIack high (chainIn b)) refl (read-whole b (image-length b is)))
-    (ap (λ b. set b 2 (digit high)) (sym (written-back b is)))
-
 pub event-set : (b : List ℕ) (event : ℕ) → isImage b ≡ true → Holds (set (set b 3 (event % 256)) 4 (event / 256)) (withEvent event (chainIn b))
 unfolding imageOf head withEvent
 event-set b event is =
@@ -90,10 +78,16 @@ response-over a b c d e Idle (UnderWay r) p q = refl
 response-over a b c d e (UnderWay r) Idle p q = refl
 response-over a b c d e (UnderWay r) (UnderWay t) p q = refl
 
-pub response-set : (b : List ℕ) (response : Response) → isImage b ≡ true → Holds (over b 5 (responseBytes response)) (withResponse response (chainIn b))
-unfolding imageOf head withResponse
-response-set b response is =
+-- an image with a response, Enable In and IACK written into it
+abbrev ownOver : List ℕ → Bool → Bool → Response → List ℕ
+ownOver b enable iack response = set (set (over b 5 (responseBytes response)) 1 (digit enable)) 2 (digit iack)
+
+pub own-set : (b : List ℕ) (enable iack : Bool) (response : Response) → isImage b ≡ true → Holds (ownOver b enable iack response) (withOwn enable iack response (chainIn b))
+unfolding imageOf head withOwn
+own-set b enable iack response is =
     let s : Chain = chainIn b in
-    holds (over b 5 (responseBytes response)) (withResponse response s) (same-chips s (withResponse response s) refl (read-whole b (image-length b is)))
-    (ap (λ l. over l 5 (responseBytes response)) (sym (written-back b is))
-    ∙ response-over (s .count) (digit (s .enable)) (digit (s .iack)) (s .event % 256) (s .event / 256) (s .response) response (replicate 5 0) (records (s .chips)))
+    let new : Chain = withOwn enable iack response s in
+    holds (ownOver b enable iack response) new (same-chips s new refl (read-whole b (image-length b is)))
+    (ap (λ l. ownOver l enable iack response) (sym (written-back b is))
+    ∙ ap (λ l. set (set l 1 (digit enable)) 2 (digit iack))
+    (response-over (s .count) (digit (s .enable)) (digit (s .iack)) (s .event % 256) (s .event / 256) (s .response) response (replicate 5 0) (records (s .chips))))

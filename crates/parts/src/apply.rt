@@ -10,9 +10,7 @@ ghost use Rattle.parts.specs.Round.{seenRound};
 use crate::places::chip_at;
 use crate::places::chip_round;
 use crate::places::set_chip;
-use crate::places::set_enable;
-use crate::places::set_iack;
-use crate::places::set_response;
+use crate::places::set_own;
 use decide::Change;
 use decide::Look;
 use decide::Seen;
@@ -89,9 +87,7 @@ fn set(image: &mut [u8], change: Change)
         return;
     }
     let response = change.response;
-    set_response(image, response);
-    set_enable(image, change.enable);
-    set_iack(image, change.iack);
+    set_own(image, change.enable, change.iack, response);
 }
 
 // What is decided.

@@ -4,7 +4,7 @@ ghost use mathlib.Core.Bool.{true};
 ghost use mathlib.Core.Path.{_≡_};
 ghost use Prim.Native.Nat.{_<_, _%_};
 ghost use Rattle.chain.specs.Apply.{counted};
-ghost use Rattle.chain.specs.Fields.{chipAt, withChip, withEnable, withIack, withResponse};
+ghost use Rattle.chain.specs.Fields.{chipAt, withChip, withOwn};
 ghost use Rattle.image.specs.Reading.{chainIn, isImage};
 use chip::Chip;
 use image::places::ENABLE;
@@ -54,32 +54,16 @@ pub fn set_chip(image: &mut [u8], i: u8, chip: Chip)
     put_chip(&mut image[at..end], chip);
 }
 
-// The chain's Enable In at a level.
-pub fn set_enable(image: &mut [u8], high: bool)
+// The chain's own fields set: Enable In, IACK and the response.
+pub fn set_own(image: &mut [u8], enable: bool, iack: bool, response: Response)
     requires { ⌜ isImage (now image) ≡ true ⌝ }
     ensures { λ _. ⌜ isImage (now (image .exit)) ≡ true ⌝ }
-    ensures { λ _. ⌜ chainIn (now (image .exit)) ≡ withEnable high (chainIn (now (image .entry))) ⌝ }
-{
-    image[ENABLE] = bits::digit_of(high);
-}
-
-// IACK at a level.
-pub fn set_iack(image: &mut [u8], high: bool)
-    requires { ⌜ isImage (now image) ≡ true ⌝ }
-    ensures { λ _. ⌜ isImage (now (image .exit)) ≡ true ⌝ }
-    ensures { λ _. ⌜ chainIn (now (image .exit)) ≡ withIack high (chainIn (now (image .entry))) ⌝ }
-{
-    image[IACK] = bits::digit_of(high);
-}
-
-// The response replaced.
-pub fn set_response(image: &mut [u8], response: Response)
-    requires { ⌜ isImage (now image) ≡ true ⌝ }
-    ensures { λ _. ⌜ isImage (now (image .exit)) ≡ true ⌝ }
-    ensures { λ _. ⌜ chainIn (now (image .exit)) ≡ withResponse response (chainIn (now (image .entry))) ⌝ }
+    ensures { λ _. ⌜ chainIn (now (image .exit)) ≡ withOwn enable iack response (chainIn (now (image .entry))) ⌝ }
 {
     let bytes = response_bytes(response);
     put_bytes(image, RESPONSE, &bytes);
+    image[ENABLE] = bits::digit_of(enable);
+    image[IACK] = bits::digit_of(iack);
 }
 
 // One more accepted event: from 65,535 the event number rolls over to 0.

@@ -17,8 +17,7 @@ use Rattle.chip.specs.declared.Chip.{Chip}
 use Rattle.response.specs.Held.{replyOf, oneMore}
 use Rattle.response.specs.Sound.{deliveredSound, responseSound}
 use Rattle.response.specs.declared.Reply.{Reply}
-use Rattle.response.specs.declared.Response.{Response}
-use Rattle.response.specs.declared.Response.the-variants.{Idle, UnderWay}
+use Rattle.response.specs.declared.Response.the-variants.{UnderWay}
 
 -- the parts of a sound response
 pub record SoundReply (count : ℕ) (r : Reply) : Type 0 where

@@ -11,14 +11,11 @@ use Rattle.response.specs.declared.Reply.{Reply}
 use Rattle.response.specs.declared.Response.{Response}
 use Rattle.response.specs.declared.Response.the-variants.{Idle, UnderWay}
 
--- the response of chip i for a channel, before its first byte: level and length are held from here on
-abbrev pub replyTo : ℕ → Chip → ℕ → Reply
-replyTo i c channel =
-    record { chip = i; channel = channel; level = responseLevel c channel; length = responseLength c channel; delivered = 0 }
-
--- the response of chip i for its candidate
+-- the response of chip i for its candidate, before its first byte: level and length are held from here on
 abbrev pub replyOf : ℕ → Chip → Reply
-replyOf i c = replyTo i c (channelOf (candidateOf c))
+replyOf i c =
+    let channel : ℕ = channelOf (candidateOf c) in
+    record { chip = i; channel = channel; level = responseLevel c channel; length = responseLength c channel; delivered = 0 }
 
 -- a response with one byte more delivered
 abbrev pub oneMore : Reply → Reply

@@ -12,10 +12,6 @@ use Rattle.response.specs.declared.Walk.{Walk}
 abbrev pub eoOf : Bool → Chip → Response → ℕ → Bool
 eoOf ei c response i = ei && isArmed c && not (isResponding response i)
 
--- before chip 0, whose EI is the chain's
-abbrev pub beforeTheFirst : Bool → Walk
-beforeTheFirst enable = record { at = 0; ei = enable; answering = 0 }
-
 -- the first chip that answers, the next one included: while EI is high, a chip with M2 clear and a candidate; the one behind it if none does
 abbrev pub answersFirst : Chip → Walk → ℕ
 answersFirst c w = cond (ltb (w .answering) (w .at)) (w .answering) (cond (w .ei && gintActive c) (w .at) (w .at + 1))

@@ -2,7 +2,7 @@
 // goes past them one by one.
 ghost use mathlib.Core.Path.{_≡_};
 ghost use Prim.Native.Nat.{_<_};
-ghost use Rattle.response.specs.Walk.{eoOf, beforeTheFirst, past, answersFirst};
+ghost use Rattle.response.specs.Walk.{eoOf, past, answersFirst};
 use crate::Response;
 use crate::Walk;
 use chip::Chip;
@@ -19,7 +19,7 @@ impl Response {
 impl Walk {
     // Before chip 0, whose EI is the chain's.
     pub fn at_first(enable: bool) -> Walk
-        ensures { λ r. ⌜ r ≡ beforeTheFirst enable ⌝ }
+        ensures { λ r. ⌜ r ≡ record { at = 0; ei = enable; answering = 0 } ⌝ }
     {
         Walk {
             at: 0,

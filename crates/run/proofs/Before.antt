@@ -18,14 +18,14 @@ use Rattle.run.specs.Run.{listLength, brokenEvent, shortResults, beforeA
 pub before-sound : (s : Chain) (bytes results : List ℕ) → isAccepted (beforeAny s bytes results) ≡ true → sound s ≡ true
 unfolding beforeAny
 before-sound s bytes results h =
-    not-false (sound s) (passed-first (not (sound s)) NotSound (brokenEvent bytes ∷ shortResults bytes results ∷ []) (accepted-is _ h))
+    not-false (sound s) (passed-first (not (sound s)) NotSound (brokenEvent (length bytes) ∷ shortResults (length bytes) (length results) ∷ []) (accepted-is _ h))
 
 pub before-room : (s : Chain) (bytes results : List ℕ) → isAccepted (beforeAny s bytes results) ≡ true → 2 * listLength bytes ≤ length results
 unfolding beforeAny
 before-room s bytes results h =
     ltb-false _ _ (passed-first (ltb (length results) (2 * listLength bytes)) ShortResults []
-    (passed-rest (not (eqb (length bytes % 4) 0)) BrokenEvent (shortResults bytes results ∷ [])
-    (passed-rest (not (sound s)) NotSound (brokenEvent bytes ∷ shortResults bytes results ∷ []) (accepted-is _ h))))
+    (passed-rest (not (eqb (length bytes % 4) 0)) BrokenEvent (shortResults (length bytes) (length results) ∷ [])
+    (passed-rest (not (sound s)) NotSound (brokenEvent (length bytes) ∷ shortResults (length bytes) (length results) ∷ []) (accepted-is _ h))))
 
 pub refused-before : (s : Chain) (bytes : List ℕ) (limit : ℕ) (results : List ℕ) (v : Verdict) → v ≡ beforeAny s bytes results
     → isAccepted v ≡ false

@@ -1,3 +1,2 @@
 pub mod List
-pub mod OnImage
 pub mod Run

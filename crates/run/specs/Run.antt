@@ -30,22 +30,16 @@ abbrev pub listLength : List ℕ → ℕ
 listLength bytes = length bytes / 4
 
 -- 10: event bytes not a multiple of four
-abbrev pub brokenLength : ℕ → Bool × Refusal
-brokenLength n = (not (eqb (n % 4) 0), BrokenEvent)
-
-abbrev pub brokenEvent : List ℕ → Bool × Refusal
-brokenEvent bytes = brokenLength (length bytes)
+abbrev pub brokenEvent : ℕ → Bool × Refusal
+brokenEvent n = (not (eqb (n % 4) 0), BrokenEvent)
 
 -- 11: result buffer under two bytes per listed event, whatever the limit
-abbrev pub shortRoom : ℕ → ℕ → Bool × Refusal
-shortRoom n room = (ltb room (2 * (n / 4)), ShortResults)
-
-abbrev pub shortResults : List ℕ → List ℕ → Bool × Refusal
-shortResults bytes results = shortRoom (length bytes) (length results)
+abbrev pub shortResults : ℕ → ℕ → Bool × Refusal
+shortResults n room = (ltb room (2 * (n / 4)), ShortResults)
 
 -- what a run takes before any event
 unfoldable pub beforeAny : Chain → List ℕ → List ℕ → Verdict
-beforeAny s bytes results = firstOf (notSound s ∷ brokenEvent bytes ∷ shortResults bytes results ∷ [])
+beforeAny s bytes results = firstOf (notSound s ∷ brokenEvent (length bytes) ∷ shortResults (length bytes) (length results) ∷ [])
 
 -- a listed event: 12, kind outside 1 to 8, before the event's own refusals
 abbrev pub listedOutcome : Listed → Chain → Outcome

@@ -8,7 +8,7 @@ ghost use mathlib.Core.List.{[], _∷_};
 ghost use mathlib.Core.Path.{_≡_};
 ghost use Rattle.refusal.specs.Numbers.{firstOf};
 ghost use Rattle.chain.specs.Refusals.{notSound};
-ghost use Rattle.run.specs.Run.{brokenLength, shortRoom, runOf};
+ghost use Rattle.run.specs.Run.{brokenEvent, shortResults, runOf};
 use crate::on_image::run_in;
 use chain::Chain;
 use image::LENGTH;
@@ -55,7 +55,7 @@ impl Ran {
 
 // 1, 10 and 11 come before any event: for a list of so many bytes, and so much room for results.
 pub fn before_any(chain: Chain, length: usize, room: usize) -> Verdict
-    ensures { λ r. ⌜ r ≡ firstOf (notSound chain ∷ brokenLength length ∷ shortRoom length room ∷ []) ⌝ }
+    ensures { λ r. ⌜ r ≡ firstOf (notSound chain ∷ brokenEvent length ∷ shortResults length room ∷ []) ⌝ }
 {
     if !chain.is_sound() {
         return Verdict::Refused(Refusal::NotSound);

@@ -7,8 +7,7 @@ ghost use Rattle.refusal.specs.Answers.{handed};
 ghost use Rattle.chain.specs.Sound.{sound};
 ghost use Rattle.image.specs.Reading.{chainIn, isImage};
 ghost use Rattle.refusal.specs.Numbers.{isAccepted};
-ghost use Rattle.run.specs.OnImage.{reportIn, performed, ranOn};
-ghost use Rattle.run.specs.Run.{listedOutcome, noted, beforeAny};
+ghost use Rattle.run.specs.Run.{listedOutcome, noted, stopped, runFrom, beforeAny, runOf};
 use crate::list::listed_at;
 use event::Listed;
 use in_place::on;
@@ -60,7 +59,8 @@ fn perform_in(image: &mut [u8], bytes: &[u8], count: usize, results: &mut [u8]) 
     requires { ⌜ 4 * count ≤ length (now bytes) ⌝ }
     requires { ⌜ 2 * count ≤ length (now results) ⌝ }
     ensures { λ _. ⌜ isImage (now (image .exit)) ≡ true ⌝ }
-    ensures { λ r. ⌜ reportIn r (now (image .exit)) (now (results .exit)) ≡ performed count (now (bytes .entry)) (now (image .entry)) (now (results .entry)) ⌝ }
+    ensures { λ r. ⌜ stopped (r .verdict) (r .accepted) (chainIn (now (image .exit))) (now (results .exit))
+        ≡ runFrom count (now (bytes .entry)) 0 (chainIn (now (image .entry))) (now (results .entry)) ⌝ }
 {
     let mut n = 0;
     while n < count {
@@ -86,7 +86,8 @@ pub fn run_in(image: &mut [u8], bytes: &[u8], limit: usize, results: &mut [u8]) 
     requires { ⌜ isImage (now image) ≡ true ⌝ }
     requires { ⌜ isAccepted (beforeAny (chainIn (now image)) (now bytes) (now results)) ≡ true ⌝ }
     ensures { λ _. ⌜ isImage (now (image .exit)) ≡ true ⌝ }
-    ensures { λ r. ⌜ reportIn r (now (image .exit)) (now (results .exit)) ≡ ranOn (now (image .entry)) (now (bytes .entry)) limit (now (results .entry)) ⌝ }
+    ensures { λ r. ⌜ stopped (r .verdict) (r .accepted) (chainIn (now (image .exit))) (now (results .exit))
+        ≡ runOf (chainIn (now (image .entry))) (now (bytes .entry)) limit (now (results .entry)) ⌝ }
 {
     perform_in(image, bytes, least(limit, bytes.len() / 4), results)
 }

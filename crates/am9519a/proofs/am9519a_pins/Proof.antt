@@ -1,9 +1,8 @@
 -- `am9519a::am9519a_pins` meets its contract.
 -- Assumes nothing.
-use mathlib.Core.Path.{refl, ap, _∙_}
-use Rattle.views.specs.Views.{pictureOf, noPicture, pinView}
+use mathlib.Core.Path.{ap, _∙_}
+use Rattle.views.specs.Views.{pinView}
 use Rattle.am9519a.specs.Calls.{pictureBytes, viewed, pinsCall}
-use Rattle.am9519a.proofs.Seen.{in-image}
 use borrow.Author.Needs.{needs}
 use Rattle.am9519a.proofs.am9519a_pins.Statement.{statement}
 use Rattle.am9519a.proofs.am9519a_pins.Tie as tie
@@ -27,12 +26,11 @@ same-length : tie.Need-same-length
 same-length c = search needs
 
 returns : tie.Need-returns
-unfolding pinsCall pinView
+unfolding pinsCall
 returns c =
     let told =
     ap (λ bytes. viewed (c .before .before .before .before .before .before .before .pin-view .result .verdict) bytes (c .before .before .before .before .before .before .before .before .before .before .before .args .view .now)) (c .before .before .before .before .before .picture-bytes .ensures)
-    ∙ ap (λ seen. viewed (seen .verdict) (pictureBytes (seen .picture)) (c .before .before .before .before .before .before .before .before .before .before .before .args .view .now)) (c .before .before .before .before .before .before .before .pin-view .ensures ∙ ap (pinView (c .before .before .before .before .before .before .before .before .before .before .before .args .chip)) (c .before .before .before .before .before .before .before .before .chain-of .ensures))
-    ∙ in-image pictureBytes (pictureOf (c .before .before .before .before .before .before .before .before .before .before .before .args .chip)) noPicture 8 (c .before .before .before .before .before .before .before .before .before .before .before .args .image .now) (c .before .before .before .before .before .before .before .before .before .before .before .args .chip) (c .before .before .before .before .before .before .before .before .before .before .before .args .view .now) refl in
+    ∙ ap (λ seen. viewed (seen .verdict) (pictureBytes (seen .picture)) (c .before .before .before .before .before .before .before .before .before .before .before .args .view .now)) (c .before .before .before .before .before .before .before .pin-view .ensures ∙ ap (pinView (c .before .before .before .before .before .before .before .before .before .before .before .args .chip)) (c .before .before .before .before .before .before .before .before .chain-of .ensures)) in
     (c .before .before .put-view .ensures .0 ∙ ap (λ r. r .number) told, c .before .before .put-view .ensures .1 ∙ ap (λ r. r .buffer) told)
 
 pub am9519a-pins-spec : {M : Type 1} → statement M

@@ -1,9 +1,8 @@
 -- `am9519a::am9519a_registers` meets its contract.
 -- Assumes nothing.
-use mathlib.Core.Path.{refl, ap, _∙_}
-use Rattle.views.specs.Views.{tableOf, noTable, registerView}
+use mathlib.Core.Path.{ap, _∙_}
+use Rattle.views.specs.Views.{registerView}
 use Rattle.am9519a.specs.Calls.{tableBytes, viewed, registersCall}
-use Rattle.am9519a.proofs.Seen.{in-image}
 use borrow.Author.Needs.{needs}
 use Rattle.am9519a.proofs.am9519a_registers.Statement.{statement}
 use Rattle.am9519a.proofs.am9519a_registers.Tie as tie
@@ -27,12 +26,11 @@ same-length : tie.Need-same-length
 same-length c = search needs
 
 returns : tie.Need-returns
-unfolding registersCall registerView
+unfolding registersCall
 returns c =
     let told =
     ap (λ bytes. viewed (c .before .before .before .before .before .before .before .register-view .result .verdict) bytes (c .before .before .before .before .before .before .before .before .before .before .before .args .view .now)) (c .before .before .before .before .before .table-bytes .ensures)
-    ∙ ap (λ seen. viewed (seen .verdict) (tableBytes (seen .table)) (c .before .before .before .before .before .before .before .before .before .before .before .args .view .now)) (c .before .before .before .before .before .before .before .register-view .ensures ∙ ap (registerView (c .before .before .before .before .before .before .before .before .before .before .before .args .chip)) (c .before .before .before .before .before .before .before .before .chain-of .ensures))
-    ∙ in-image tableBytes (tableOf (c .before .before .before .before .before .before .before .before .before .before .before .args .chip)) noTable 9 (c .before .before .before .before .before .before .before .before .before .before .before .args .image .now) (c .before .before .before .before .before .before .before .before .before .before .before .args .chip) (c .before .before .before .before .before .before .before .before .before .before .before .args .view .now) refl in
+    ∙ ap (λ seen. viewed (seen .verdict) (tableBytes (seen .table)) (c .before .before .before .before .before .before .before .before .before .before .before .args .view .now)) (c .before .before .before .before .before .before .before .register-view .ensures ∙ ap (registerView (c .before .before .before .before .before .before .before .before .before .before .before .args .chip)) (c .before .before .before .before .before .before .before .before .chain-of .ensures)) in
     (c .before .before .put-view .ensures .0 ∙ ap (λ r. r .number) told, c .before .before .put-view .ensures .1 ∙ ap (λ r. r .buffer) told)
 
 pub am9519a-registers-spec : {M : Type 1} → statement M

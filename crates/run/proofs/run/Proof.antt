@@ -6,16 +6,12 @@ use lib.ListN.{length, length-map}
 use borrow.Author.Tests.{not-true, not-false}
 use borrow.Author.Needs.{needs}
 use Rattle.refusal.specs.Numbers.{isAccepted}
-use Rattle.refusal.specs.declared.Verdict.{Verdict}
-use Rattle.chain.specs.declared.Chain.{Chain}
 use Rattle.image.proofs.OneToOne.{of-the-layout, read-back}
 use Rattle.image.specs.OneToOne.{Whole}
 use Rattle.image.specs.Reading.{chainIn, isImage}
 use Rattle.run.proofs.Before.{refused-before}
 use Rattle.run.proofs.Owned.{chips-whole}
-use Rattle.run.specs.OnImage.{reportIn}
 use Rattle.run.specs.Run.{stopped, beforeAny, runOf}
-use Rattle.run.specs.declared.Ran.{Ran}
 use Rattle.run.proofs.run.Statement.{statement}
 use Rattle.run.proofs.run.Tie as tie
 
@@ -77,7 +73,7 @@ same-length c = search needs
 returns-2 : tie.Need-returns-2
 returns-2 c =
     let same : chainIn (c .before .before .before .before .before .before .before .before .before .before .put-chain .last .0) ≡ c .before .before .before .before .before .before .before .before .before .before .before .before .before .before .before .before .before .args .chain = ap chainIn (c .before .before .before .before .before .before .before .before .before .before .put-chain .ensures) ∙ read-back (c .before .before .before .before .before .before .before .before .before .before .before .before .before .before .before .before .before .args .chain) (whole (c .before .before .before .before .before .before .before .before .before .before .before .before .before .before .before .before .before)) in
-    let is : reportIn (c .before .before .before .before .before .before .run-in .result) (c .before .before .before .before .before .before .run-in .last .0) (c .before .before .before .before .before .before .run-in .last .1 .1 .1 .0) ≡ runOf (c .before .before .before .before .before .before .before .before .before .before .before .before .before .before .before .before .before .args .chain) (c .before .before .before .before .before .before .before .before .before .before .before .before .before .before .before .before .before .args .bytes .now) (c .before .before .before .before .before .before .before .before .before .before .before .before .before .before .before .before .before .args .limit) (c .before .before .before .before .before .before .before .before .before .before .before .before .before .before .before .before .before .args .results .now) =
+    let is : stopped (c .before .before .before .before .before .before .run-in .result .verdict) (c .before .before .before .before .before .before .run-in .result .accepted) (chainIn (c .before .before .before .before .before .before .run-in .last .0)) (c .before .before .before .before .before .before .run-in .last .1 .1 .1 .0) ≡ runOf (c .before .before .before .before .before .before .before .before .before .before .before .before .before .before .before .before .before .args .chain) (c .before .before .before .before .before .before .before .before .before .before .before .before .before .before .before .before .before .args .bytes .now) (c .before .before .before .before .before .before .before .before .before .before .before .before .before .before .before .before .before .args .limit) (c .before .before .before .before .before .before .before .before .before .before .before .before .before .before .before .before .before .args .results .now) =
     c .before .before .before .before .before .before .run-in .ensures .1 ∙ ap (λ s. runOf s (c .before .before .before .before .before .before .before .before .before .before .before .before .before .before .before .before .before .args .bytes .now) (c .before .before .before .before .before .before .before .before .before .before .before .before .before .before .before .before .before .args .limit) (c .before .before .before .before .before .before .before .before .before .before .before .before .before .before .before .before .before .args .results .now)) same in
     (c .stopped2 .ensures ∙ ap (λ chain. record { verdict = c .before .before .before .before .before .before .run-in .result .verdict; accepted = c .before .before .before .before .before .before .run-in .result .accepted; chain = chain }) (c .before .chain-in .ensures) ∙ ap (λ r. r .ran) is, ap (λ r. r .results) is)
 

@@ -1,7 +1,6 @@
 -- `chip::Chip::response_byte` meets its contract: past the 32 bytes stands the definition's 0.
 -- Assumes nothing.
 use mathlib.Core.Path.{_≡_, sym}
-use Prim.Native.Nat.{_≤_}
 use native.Mathlib.Omega.{arith}
 use lib.ListN.{length}
 use borrow.Author.Needs.{needs}
