@@ -21,12 +21,12 @@ use Rattle.chip.specs.Line.{lineSet}
 use Rattle.chip.specs.Reset.{reset, powerUp}
 use Rattle.chip.specs.Sound.{codesSound, destinationSound, chipSound}
 use Rattle.chip.specs.declared.Chip.{Chip}
-use Rattle.chip.specs.declared.Command.{Command}
-use Rattle.chip.specs.declared.Command.the-variants.{Reset, ClearIrrAndImr, ClearIrrAndImrBit, ClearImr, ClearImrBit, SetImr, SetImrBit, ClearIrr, ClearIrrBit, SetIrr, SetIrrBit, ClearHighestIsr, ClearIsr, ClearIsrBit, LoadMode, LoadRead, LoadReadAndArm, LoadReadAndDisarm, PreselectImr, PreselectAcr, PreselectLevel}
+use Rattle.figure4.specs.declared.Command.{Command}
+use Rattle.figure4.specs.declared.Command.the-variants.{Reset, ClearIrrAndImr, ClearIrrAndImrBit, ClearImr, ClearImrBit, SetImr, SetImrBit, ClearIrr, ClearIrrBit, SetIrr, SetIrrBit, ClearHighestIsr, ClearIsr, ClearIsrBit, LoadMode, LoadRead, LoadReadAndArm, LoadReadAndDisarm, PreselectImr, PreselectAcr, PreselectLevel}
 use Rattle.chip.specs.declared.Destination.{Destination}
 use Rattle.chip.specs.declared.Destination.the-variants.{Nowhere, Imr, Acr, Level}
-use Rattle.chip.specs.declared.Meaning.the-variants.{Row}
-use Rattle.chip.proofs.Figure4.{rowFits}
+use Rattle.figure4.specs.declared.Meaning.the-variants.{Row}
+use Rattle.figure4.proofs.Figure4.{rowFits}
 use Rattle.chip.proofs.Rules.{chipFields}
 use Rattle.chip.proofs.Soundness.{codes-sound, pointer-sound, destination-sound, level-le, place-lt}
 

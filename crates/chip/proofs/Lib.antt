@@ -1,4 +1,3 @@
-pub mod Figure4
 pub mod Kept
 pub mod Past
 pub mod Pointer

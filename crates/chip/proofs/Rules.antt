@@ -7,7 +7,7 @@ use Rattle.chip.specs.Acknowledge.{answered, finished}
 use Rattle.chip.specs.Command.{obey, commanded}
 use Rattle.chip.specs.Data.{dataWritten}
 use Rattle.chip.specs.Fields.{withIrr, withIsr, withImr, withAcr, withMode, withCommand, withMemory, withCounts, withLines, withPointer, withDestination, zeroChip}
-use Rattle.chip.specs.Figure4.{figure4}
+use Rattle.figure4.specs.Figure4.{figure4}
 use Rattle.chip.specs.Line.{lineSet}
 use Rattle.chip.specs.Reset.{reset, powerUp}
 use Rattle.chip.specs.Sound.{codesSound, chipSound}

@@ -9,7 +9,7 @@ use Rattle.chip.specs.Acknowledge.{responseLevel, responseLength}
 use Rattle.chip.specs.Command.{commanded}
 use Rattle.chip.specs.Data.{dataRead}
 use Rattle.chip.specs.Fields.{withIrr, withIsr, withImr, withAcr, withMode, withPointer}
-use Rattle.chip.specs.Figure4.{figure4}
+use Rattle.figure4.specs.Figure4.{figure4}
 use Rattle.chip.specs.Line.{lineSet}
 use Rattle.chip.specs.Reset.{reset, powerUp}
 use Rattle.chip.specs.Status.{statusByte, gintActive, gintPin}

@@ -6,11 +6,11 @@ use Rattle.search.specs.Clear.{clearHighest}
 use Rattle.chip.specs.Fields.{withIrr, withIsr, withImr, withMode, withCommand, withCounts, withDestination}
 use Rattle.chip.specs.Reset.{reset}
 use Rattle.chip.specs.declared.Chip.{Chip}
-use Rattle.chip.specs.declared.Command.{Command}
-use Rattle.chip.specs.declared.Command.the-variants.{Reset, ClearIrrAndImr, ClearIrrAndImrBit, ClearImr, ClearImrBit, SetImr, SetImrBit, ClearIrr, ClearIrrBit, SetIrr, SetIrrBit, ClearHighestIsr, ClearIsr, ClearIsrBit, LoadMode, LoadRead, LoadReadAndArm, LoadReadAndDisarm, PreselectImr, PreselectAcr, PreselectLevel}
+use Rattle.figure4.specs.declared.Command.{Command}
+use Rattle.figure4.specs.declared.Command.the-variants.{Reset, ClearIrrAndImr, ClearIrrAndImrBit, ClearImr, ClearImrBit, SetImr, SetImrBit, ClearIrr, ClearIrrBit, SetIrr, SetIrrBit, ClearHighestIsr, ClearIsr, ClearIsrBit, LoadMode, LoadRead, LoadReadAndArm, LoadReadAndDisarm, PreselectImr, PreselectAcr, PreselectLevel}
 use Rattle.chip.specs.declared.Destination.the-variants.{Nowhere, Imr, Acr, Level}
-use Rattle.chip.specs.declared.Meaning.{Meaning}
-use Rattle.chip.specs.declared.Meaning.the-variants.{Row, Undefined}
+use Rattle.figure4.specs.declared.Meaning.{Meaning}
+use Rattle.figure4.specs.declared.Meaning.the-variants.{Row, Undefined}
 
 unfoldable pub obey : Command → Chip → Chip
 obey Reset c = reset c

@@ -2,7 +2,6 @@ pub mod Acknowledge
 pub mod Command
 pub mod Data
 pub mod Fields
-pub mod Figure4
 pub mod Line
 pub mod Reset
 pub mod Sound

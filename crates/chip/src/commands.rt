@@ -3,13 +3,13 @@ ghost use mathlib.Core.Path.{_≡_};
 ghost use Prim.Native.Nat.{_<_};
 ghost use Rattle.chip.specs.Command.{obey, commanded};
 ghost use Rattle.chip.specs.Fields.{withCommand};
-ghost use Rattle.chip.specs.Figure4.{figure4};
-ghost use Rattle.chip.specs.declared.Command.the-variants.{PreselectLevel};
-ghost use Rattle.chip.specs.declared.Meaning.the-variants.{Row};
+ghost use Rattle.figure4.specs.Figure4.{figure4};
+ghost use Rattle.figure4.specs.declared.Command.the-variants.{PreselectLevel};
+ghost use Rattle.figure4.specs.declared.Meaning.the-variants.{Row};
 use crate::Chip;
-use crate::Command;
 use crate::Destination;
-use crate::Meaning;
+use figure4::Command;
+use figure4::Meaning;
 
 impl Chip {
     // A command write: what its row says; an undefined one changes nothing.

@@ -8,14 +8,14 @@ use Rattle.refusal.proofs.Numbers.{not-both}
 use Rattle.refusal.specs.declared.Verdict.the-variants.{Accepted}
 use Rattle.event.specs.declared.Event.{Event}
 use Rattle.event.specs.declared.Event.the-variants.{Command, Data, Status, Read, Line, Enable, Fall, Rise}
-use Rattle.chip.proofs.Figure4.{row-fits}
+use Rattle.figure4.proofs.Figure4.{row-fits}
 use Rattle.chip.proofs.Kept.{commanded-kept, written-kept, line-kept, answered-kept, finished-kept}
 use Rattle.chip.specs.Command.{commanded}
-use Rattle.chip.specs.Figure4.{figure4}
+use Rattle.figure4.specs.Figure4.{figure4}
 use Rattle.chip.specs.Sound.{chipSound}
 use Rattle.chip.specs.declared.Chip.{Chip}
-use Rattle.chip.specs.declared.Meaning.{Meaning}
-use Rattle.chip.specs.declared.Meaning.the-variants.{Row, Undefined}
+use Rattle.figure4.specs.declared.Meaning.{Meaning}
+use Rattle.figure4.specs.declared.Meaning.the-variants.{Row, Undefined}
 use Rattle.response.proofs.Soundness.{reply-whole, reply-delivered, one-more, still-left}
 use Rattle.response.specs.Held.{endsResponse}
 use Rattle.response.specs.Sound.{deliveredSound, responseSound}

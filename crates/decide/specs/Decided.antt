@@ -6,7 +6,7 @@ use Rattle.event.specs.declared.Event.{Event}
 use Rattle.event.specs.declared.Event.the-variants.{Command, Data, Status, Read, Line, Enable, Fall, Rise}
 use Rattle.chip.specs.Command.{commanded}
 use Rattle.chip.specs.Data.{dataRead, dataWritten}
-use Rattle.chip.specs.Figure4.{figure4}
+use Rattle.figure4.specs.Figure4.{figure4}
 use Rattle.chip.specs.Line.{lineSet}
 use Rattle.chip.specs.Status.{statusByte}
 use Rattle.response.specs.Held.{endsResponse}

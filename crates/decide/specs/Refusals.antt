@@ -11,7 +11,7 @@ use Rattle.refusal.specs.declared.Verdict.{Verdict}
 use Rattle.event.specs.declared.Event.{Event}
 use Rattle.event.specs.declared.Event.the-variants.{Command, Data, Status, Read, Line, Enable, Fall, Rise}
 use Rattle.chip.specs.Data.{hasNoDestination, isPastItsCount}
-use Rattle.chip.specs.Figure4.{figure4, undefined}
+use Rattle.figure4.specs.Figure4.{figure4, undefined}
 use Rattle.chip.specs.declared.Chip.{Chip}
 use Rattle.decide.specs.declared.Seen.{Seen}
 

@@ -6,8 +6,8 @@ ghost use Rattle.refusal.specs.Numbers.{firstOf};
 ghost use Rattle.decide.specs.Refusals.{noSuchChip, noSuchChannel, noSuchLevel, pulseUnderWay, iackThereAlready, undefinedCommand, noDestination, pastItsCount, verdictOn};
 use crate::Seen;
 use chip::Chip;
-use chip::Meaning;
 use event::Event;
+use figure4::Meaning;
 use refusal::Refusal;
 use refusal::Verdict;
 

@@ -11,7 +11,7 @@ use Rattle.event.specs.declared.Event.the-variants.{Command, Data, Status, Read
 use Rattle.chip.specs.Acknowledge.{answered, finished}
 use Rattle.chip.specs.Command.{commanded}
 use Rattle.chip.specs.Data.{dataWritten}
-use Rattle.chip.specs.Figure4.{figure4}
+use Rattle.figure4.specs.Figure4.{figure4}
 use Rattle.chip.specs.Line.{lineSet}
 use Rattle.chip.specs.declared.Chip.{Chip}
 use Rattle.response.specs.Held.{endsResponse}

@@ -28,7 +28,7 @@ use Rattle.event.specs.declared.Event.the-variants.{Fall, Rise}
 use Rattle.chip.proofs.Pointer.{answered-pointer, commanded-pointer, written-pointer, line-pointer, finished-pointer}
 use Rattle.chip.proofs.Soundness.{pointer-sound}
 use Rattle.chip.specs.Fields.{zeroChip}
-use Rattle.chip.specs.Figure4.{isReset}
+use Rattle.figure4.specs.Figure4.{isReset}
 use Rattle.chip.specs.Status.{isArmed, isPolled, isRotating, candidateOf, gintActive}
 use Rattle.chip.specs.declared.Chip.{Chip}
 use Rattle.response.specs.Held.{replyOf, isIdle, isResponding}

@@ -19,16 +19,16 @@ use Rattle.chip.specs.Acknowledge.{answered, finished}
 use Rattle.chip.specs.Command.{obey, commanded}
 use Rattle.chip.specs.Data.{dataWritten}
 use Rattle.chip.specs.Fields.{zeroChip}
-use Rattle.chip.specs.Figure4.{figure4}
+use Rattle.figure4.specs.Figure4.{figure4}
 use Rattle.chip.specs.Line.{lineSet}
 use Rattle.chip.specs.Reset.{reset, powerUp}
 use Rattle.chip.specs.declared.Chip.{Chip}
-use Rattle.chip.specs.declared.Command.{Command}
-use Rattle.chip.specs.declared.Command.the-variants.{Reset, ClearIrrAndImr, ClearIrrAndImrBit, ClearImr, ClearImrBit, SetImr, SetImrBit, ClearIrr, ClearIrrBit, SetIrr, SetIrrBit, ClearHighestIsr, ClearIsr, ClearIsrBit, LoadMode, LoadRead, LoadReadAndArm, LoadReadAndDisarm, PreselectImr, PreselectAcr, PreselectLevel}
+use Rattle.figure4.specs.declared.Command.{Command}
+use Rattle.figure4.specs.declared.Command.the-variants.{Reset, ClearIrrAndImr, ClearIrrAndImrBit, ClearImr, ClearImrBit, SetImr, SetImrBit, ClearIrr, ClearIrrBit, SetIrr, SetIrrBit, ClearHighestIsr, ClearIsr, ClearIsrBit, LoadMode, LoadRead, LoadReadAndArm, LoadReadAndDisarm, PreselectImr, PreselectAcr, PreselectLevel}
 use Rattle.chip.specs.declared.Destination.{Destination}
 use Rattle.chip.specs.declared.Destination.the-variants.{Nowhere, Imr, Acr, Level}
-use Rattle.chip.specs.declared.Meaning.{Meaning}
-use Rattle.chip.specs.declared.Meaning.the-variants.{Row, Undefined}
+use Rattle.figure4.specs.declared.Meaning.{Meaning}
+use Rattle.figure4.specs.declared.Meaning.the-variants.{Row, Undefined}
 use Rattle.decide.specs.Decided.{decided}
 use Rattle.decide.specs.declared.Seen.{Seen}
 use Rattle.chain.proofs.Kept.{applied-chips}

@@ -9,7 +9,7 @@ use lib.ListN.{getD, length}
 use Rattle.refusal.specs.Numbers.{verdictNumber}
 use Rattle.search.specs.Candidate.{searchNumber}
 use Rattle.chip.specs.Data.{hasNoDestination, isPastItsCount}
-use Rattle.chip.specs.Figure4.{figure4, undefined}
+use Rattle.figure4.specs.Figure4.{figure4, undefined}
 use Rattle.refusal.specs.Answers.{handed}
 use Rattle.views.specs.Views.{registerView, pinView}
 use Rattle.chain.specs.Events.{eventOf}

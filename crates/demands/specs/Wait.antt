@@ -6,7 +6,7 @@ use Prim.Native.Nat.{ℕ, _<_}
 use lib.Dec.{eqb}
 use Rattle.bits.specs.Below.{every}
 use Rattle.bits.specs.Byte.{isWaiting}
-use Rattle.chip.specs.Figure4.{isReset}
+use Rattle.figure4.specs.Figure4.{isReset}
 use Rattle.chip.specs.Status.{isArmed, isPolled, isRotating, gintActive}
 use Rattle.chip.specs.declared.Chip.{Chip}
 use Rattle.refusal.specs.Numbers.{isAccepted}

@@ -4,7 +4,7 @@ use Prim.Native.Nat.{ℕ, _+_}
 use lib.Dec.{eqb}
 use Rattle.search.specs.Candidate.{channelOf}
 use Rattle.chip.specs.Acknowledge.{responseLevel, responseLength}
-use Rattle.chip.specs.Figure4.{isReset}
+use Rattle.figure4.specs.Figure4.{isReset}
 use Rattle.chip.specs.Status.{candidateOf}
 use Rattle.chip.specs.declared.Chip.{Chip}
 use Rattle.response.specs.declared.Reply.{Reply}

@@ -7,7 +7,7 @@ ghost use Rattle.response.specs.Held.{replyOf, oneMore, isIdle, isRespon
 use crate::Reply;
 use crate::Response;
 use chip::Chip;
-use chip::Meaning;
+use figure4::Meaning;
 
 impl Reply {
     // The response of chip i for its candidate, before its first byte: level and length are held from here on.

@@ -3,8 +3,8 @@
 use mathlib.Core.Path.{refl}
 use borrow.Author.Needs.{needs}
 use Rattle.chip.specs.Command.{obey}
-use Rattle.chip.specs.declared.Command.the-variants.{LoadMode, LoadRead, LoadReadAndArm, LoadReadAndDisarm}
-use Rattle.chip.proofs.Figure4.{row-narrow, preselected}
+use Rattle.figure4.specs.declared.Command.the-variants.{LoadMode, LoadRead, LoadReadAndArm, LoadReadAndDisarm}
+use Rattle.figure4.proofs.Figure4.{row-narrow, preselected}
 use Rattle.chip.proofs.Rules.{chipFields}
 use Rattle.chip.proofs.Chip.obey.Statement.{statement}
 use Rattle.chip.proofs.Chip.obey.Tie as tie

@@ -1,9 +1,44 @@
-// Figure 4 of the data sheet: what a command code means.
+// Figure 4 of the data sheet: the commands, and what a command code means. What a command does to a chip is `chip`'s.
 ghost use mathlib.Core.Path.{_≡_};
-ghost use Rattle.chip.specs.Figure4.{figure4, isReset, resetOrUndefined, allOrOne, loadRead, undefined};
-use crate::Command;
-use crate::Meaning;
-use crate::Undefined;
+ghost use Rattle.figure4.specs.Figure4.{figure4, isReset, resetOrUndefined, allOrOne, loadRead, undefined};
+
+// The rows of Figure 4, in its order. A number is the row's B2 B1 B0, M4 to M0, M6 M5, or BY1 BY0 and L2 L1 L0.
+pub enum Command {
+    Reset,
+    ClearIrrAndImr,
+    ClearIrrAndImrBit(u8),
+    ClearImr,
+    ClearImrBit(u8),
+    SetImr,
+    SetImrBit(u8),
+    ClearIrr,
+    ClearIrrBit(u8),
+    SetIrr,
+    SetIrrBit(u8),
+    ClearHighestIsr,
+    ClearIsr,
+    ClearIsrBit(u8),
+    LoadMode(u8),
+    LoadRead(u8),
+    LoadReadAndArm(u8),
+    LoadReadAndDisarm(u8),
+    PreselectImr,
+    PreselectAcr,
+    PreselectLevel(u8, u8),
+}
+
+// The undefined codes, which are of three kinds: 01 to 0F hex, 1010xx11 binary, and D0 to DF hex.
+pub enum Undefined {
+    Codes01To0F,
+    Codes1010xx11,
+    CodesD0ToDF,
+}
+
+// What a command code means: a row of Figure 4, or nothing.
+pub enum Meaning {
+    Row(Command),
+    Undefined(Undefined),
+}
 
 impl Meaning {
     // The row of a code, by its high hexadecimal digit.

@@ -1,10 +1,10 @@
--- `chip::Meaning::of` meets its contract.
+-- `figure4::Meaning::of` meets its contract.
 -- Assumes nothing.
 use borrow.Author.Needs.{needs}
 use borrow.Author.Tests.{ne-eqb}
-use Rattle.chip.specs.Figure4.{figure4}
-use Rattle.chip.proofs.Meaning.of.Statement.{statement}
-use Rattle.chip.proofs.Meaning.of.Tie as tie
+use Rattle.figure4.specs.Figure4.{figure4}
+use Rattle.figure4.proofs.Meaning.of.Statement.{statement}
+use Rattle.figure4.proofs.Meaning.of.Tie as tie
 
 reset-or-undefined-requires : tie.Need-reset-or-undefined-requires
 reset-or-undefined-requires c κs = search needs

@@ -1,8 +1,8 @@
--- `chip::Meaning::reset_or_undefined` meets its contract.
+-- `figure4::Meaning::reset_or_undefined` meets its contract.
 -- Assumes nothing.
 use borrow.Author.Needs.{needs}
-use Rattle.chip.proofs.Meaning.reset_or_undefined.Statement.{statement}
-use Rattle.chip.proofs.Meaning.reset_or_undefined.Tie as tie
+use Rattle.figure4.proofs.Meaning.reset_or_undefined.Statement.{statement}
+use Rattle.figure4.proofs.Meaning.reset_or_undefined.Tie as tie
 
 is-reset-requires : tie.Need-is-reset-requires
 is-reset-requires c κs = search needs

@@ -1,8 +1,8 @@
--- `chip::Meaning::all_or_one` meets its contract.
+-- `figure4::Meaning::all_or_one` meets its contract.
 -- Assumes nothing.
 use borrow.Author.Needs.{needs}
-use Rattle.chip.proofs.Meaning.all_or_one.Statement.{statement}
-use Rattle.chip.proofs.Meaning.all_or_one.Tie as tie
+use Rattle.figure4.proofs.Meaning.all_or_one.Statement.{statement}
+use Rattle.figure4.proofs.Meaning.all_or_one.Tie as tie
 
 is-set-requires : tie.Need-is-set-requires
 is-set-requires c κs = search needs

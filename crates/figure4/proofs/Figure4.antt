@@ -8,13 +8,13 @@ use lib.Dec.{eqb, leb, ltb, lit<}
 use borrow.Author.Tests.{lt-ltb, ltb-true, not-true}
 use Rattle.bits.proofs.Below.{either, both-left, both-right, tested}
 use Rattle.bits.specs.Byte.{bit}
-use Rattle.chip.specs.Figure4.{isReset, loadRead, allOrOne, rowIn, figure4, undefined}
-use Rattle.chip.specs.declared.Command.{Command}
-use Rattle.chip.specs.declared.Command.the-variants.{Reset, ClearIrrAndImr, ClearIrrAndImrBit, ClearImr, ClearImrBit, SetImr, SetImrBit, ClearIrr, ClearIrrBit, SetIrr, SetIrrBit, ClearHighestIsr, ClearIsr, ClearIsrBit, LoadMode, LoadRead, LoadReadAndArm, LoadReadAndDisarm, PreselectImr, PreselectAcr, PreselectLevel}
-use Rattle.chip.specs.declared.Meaning.{Meaning}
-use Rattle.chip.specs.declared.Meaning.the-variants.{Row, Undefined}
-use Rattle.chip.specs.declared.Undefined as kinds
-use Rattle.chip.specs.declared.Undefined.the-variants.{Codes01To0F, Codes1010xx11, CodesD0ToDF}
+use Rattle.figure4.specs.Figure4.{isReset, loadRead, allOrOne, rowIn, figure4, undefined}
+use Rattle.figure4.specs.declared.Command.{Command}
+use Rattle.figure4.specs.declared.Command.the-variants.{Reset, ClearIrrAndImr, ClearIrrAndImrBit, ClearImr, ClearImrBit, SetImr, SetImrBit, ClearIrr, ClearIrrBit, SetIrr, SetIrrBit, ClearHighestIsr, ClearIsr, ClearIsrBit, LoadMode, LoadRead, LoadReadAndArm, LoadReadAndDisarm, PreselectImr, PreselectAcr, PreselectLevel}
+use Rattle.figure4.specs.declared.Meaning.{Meaning}
+use Rattle.figure4.specs.declared.Meaning.the-variants.{Row, Undefined}
+use Rattle.figure4.specs.declared.Undefined as kinds
+use Rattle.figure4.specs.declared.Undefined.the-variants.{Codes01To0F, Codes1010xx11, CodesD0ToDF}
 
 -- codes 01 to 0F hex, 1010xx11 binary, and D0 to DF hex
 abbrev pub namedAs : kinds.Undefined → ℕ → Bool

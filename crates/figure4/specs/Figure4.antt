@@ -5,11 +5,11 @@ use mathlib.Core.Bool.{Bool, true, false, cond, _||_}
 use Prim.Native.Nat.{ℕ, _/_, _%_}
 use lib.Dec.{eqb}
 use Rattle.bits.specs.Byte.{bit}
-use Rattle.chip.specs.declared.Command.{Command}
-use Rattle.chip.specs.declared.Command.the-variants.{Reset, ClearIrrAndImr, ClearIrrAndImrBit, ClearImr, ClearImrBit, SetImr, SetImrBit, ClearIrr, ClearIrrBit, SetIrr, SetIrrBit, ClearHighestIsr, ClearIsr, ClearIsrBit, LoadMode, LoadRead, LoadReadAndArm, LoadReadAndDisarm, PreselectImr, PreselectAcr, PreselectLevel}
-use Rattle.chip.specs.declared.Meaning.{Meaning}
-use Rattle.chip.specs.declared.Meaning.the-variants.{Row, Undefined}
-use Rattle.chip.specs.declared.Undefined.the-variants.{Codes01To0F, Codes1010xx11, CodesD0ToDF}
+use Rattle.figure4.specs.declared.Command.{Command}
+use Rattle.figure4.specs.declared.Command.the-variants.{Reset, ClearIrrAndImr, ClearIrrAndImrBit, ClearImr, ClearImrBit, SetImr, SetImrBit, ClearIrr, ClearIrrBit, SetIrr, SetIrrBit, ClearHighestIsr, ClearIsr, ClearIsrBit, LoadMode, LoadRead, LoadReadAndArm, LoadReadAndDisarm, PreselectImr, PreselectAcr, PreselectLevel}
+use Rattle.figure4.specs.declared.Meaning.{Meaning}
+use Rattle.figure4.specs.declared.Meaning.the-variants.{Row, Undefined}
+use Rattle.figure4.specs.declared.Undefined.the-variants.{Codes01To0F, Codes1010xx11, CodesD0ToDF}
 
 -- the code of the reset command
 abbrev pub isReset : ℕ → Bool

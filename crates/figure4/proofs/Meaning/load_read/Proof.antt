@@ -1,8 +1,8 @@
--- `chip::Meaning::load_read` meets its contract.
+-- `figure4::Meaning::load_read` meets its contract.
 -- Assumes nothing.
 use borrow.Author.Tests.{ne-eqb}
-use Rattle.chip.proofs.Meaning.load_read.Statement.{statement}
-use Rattle.chip.proofs.Meaning.load_read.Tie as tie
+use Rattle.figure4.proofs.Meaning.load_read.Statement.{statement}
+use Rattle.figure4.proofs.Meaning.load_read.Tie as tie
 
 returns : tie.Need-returns
 returns c = simp (c .match .keys1)
