@@ -25,7 +25,7 @@ use Rattle.chip.specs.declared.Chip.{Chip}
 use Rattle.response.specs.Sound.{responseSound}
 use Rattle.response.specs.declared.Response.{Response}
 use Rattle.decide.proofs.Kept.{KeepsSound, AtResponding, decided-kept}
-use Rattle.decide.specs.Look.{respondingOr}
+use Rattle.decide.specs.Look.{unlessResponding}
 use Rattle.decide.specs.declared.Change.{Change}
 use Rattle.decide.specs.declared.Look.the-variants.{Nowhere}
 use Rattle.chain.specs.Apply.{replacedIn, applied, decision, changed, counted}
@@ -90,7 +90,7 @@ at-responding : (e : Event) (s : Chain) → e ≡ Rise → AtResponding (seenBy 
 unfolding seenAt
 at-responding e s is =
     subst (λ (e : Event). AtResponding (seenBy e s)) (sym is)
-    (λ r now. ap (λ (response : Response). lookedAt (respondingOr Nowhere response) s) now)
+    (λ r now. ap (λ (response : Response). lookedAt (unlessResponding Nowhere response) s) now)
 
 changed-kept : (e : Event) (s : Chain) → verdictOf e s ≡ Accepted → sound (changed e s) ≡ true
 unfolding changed decision

@@ -1,6 +1,6 @@
 -- What an accepted event does, applied to a chain: at most one chip is replaced, and the event is counted.
 use mathlib.Core.Bool.{cond}
-use Prim.Native.Nat.{_+_, _%_}
+use Rattle.event.specs.Counting.{nextNumber}
 use Rattle.event.specs.declared.Event.{Event}
 use Rattle.refusal.specs.declared.Answer.{Answer}
 use Rattle.decide.specs.Decided.{decided}
@@ -32,6 +32,6 @@ answerOf e s = decision e s .answer
 unfoldable pub changed : Event → Chain → Chain
 changed e s = applied (decision e s) s
 
--- each accepted event adds one to the event number; from 65,535 it rolls over to 0
+-- one more accepted event is counted
 unfoldable pub counted : Chain → Chain
-counted s = withEvent ((s .event + 1) % 65536) s
+counted s = withEvent (nextNumber (s .event)) s

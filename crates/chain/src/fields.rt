@@ -7,6 +7,7 @@ use crate::Chain;
 use crate::Outcome;
 use chip::Chip;
 use decide::Change;
+use event::next_number;
 use refusal::Answer;
 use refusal::Refusal;
 use response::Response;
@@ -65,11 +66,11 @@ impl Chain {
         }
     }
 
-    // The chain after one more accepted event: from 65,535 the event number rolls over to 0.
+    // The chain with one more accepted event counted.
     pub(crate) fn counted(mut self) -> Chain
         ensures { λ r. ⌜ r ≡ counted self ⌝ }
     {
-        self.event = std::num::wrapping_add_u16(self.event, 1);
+        self.event = next_number(self.event);
         self
     }
 

@@ -7,9 +7,9 @@ use Rattle.decide.specs.declared.Look.{Look}
 use Rattle.decide.specs.declared.Look.the-variants.{Nowhere, At, AtEi, Answering}
 
 -- at the chip that responds, if one does
-abbrev pub respondingOr : Look → Response → Look
-respondingOr look Idle = look
-respondingOr look (UnderWay r) = At (r .chip)
+abbrev pub unlessResponding : Look → Response → Look
+unlessResponding look Idle = look
+unlessResponding look (UnderWay r) = At (r .chip)
 
 -- a status byte shows the chip's EI; a fall without a response under way is a first pulse
 abbrev pub lookOf : Event → Response → Look
@@ -19,5 +19,5 @@ lookOf (Status i) response = AtEi i
 lookOf (Read i) response = At i
 lookOf (Line i channel level) response = At i
 lookOf (Enable level) response = Nowhere
-lookOf Fall response = respondingOr Answering response
-lookOf Rise response = respondingOr Nowhere response
+lookOf Fall response = unlessResponding Answering response
+lookOf Rise response = unlessResponding Nowhere response

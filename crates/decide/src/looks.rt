@@ -1,6 +1,6 @@
 // Where each event looks.
 ghost use mathlib.Core.Path.{_≡_};
-ghost use Rattle.decide.specs.Look.{lookOf, respondingOr};
+ghost use Rattle.decide.specs.Look.{lookOf, unlessResponding};
 use crate::Look;
 use event::Event;
 use response::Response;
@@ -24,7 +24,7 @@ impl Look {
 
     // At the chip that responds, if one does.
     fn unless_responding(self, response: Response) -> Look
-        ensures { λ r. ⌜ r ≡ respondingOr self response ⌝ }
+        ensures { λ r. ⌜ r ≡ unlessResponding self response ⌝ }
     {
         match response {
             Response::Idle => self,

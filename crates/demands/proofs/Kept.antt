@@ -32,7 +32,7 @@ use Rattle.response.specs.declared.Response.the-variants.{Idle, UnderWay}
 use Rattle.decide.proofs.Answered.{decided-tells}
 use Rattle.decide.proofs.Passed.{passed-names}
 use Rattle.decide.proofs.Soundness.{selected-is}
-use Rattle.decide.specs.Look.{respondingOr}
+use Rattle.decide.specs.Look.{unlessResponding}
 use Rattle.decide.specs.Pulse.{selectedBy}
 use Rattle.decide.specs.declared.Change.{Change}
 use Rattle.decide.specs.declared.Look.the-variants.{Nowhere, Answering}
@@ -77,7 +77,7 @@ applied-records c s = either (λ (t : Chain). length (t .chips) ≡ length (s .c
 pub first-there : (s : Chain) (r : Reply) → s .response ≡ Idle → selectedBy (seenBy Fall s) ≡ UnderWay r → replaces Fall s (seenBy Fall s .at) ≡ true
 unfolding selected
 first-there s r idle found =
-    let is : selected s ≡ UnderWay r = ap (λ response. selectedBy (seenIn (respondingOr Answering response) s)) (sym idle) ∙ found in
+    let is : selected s ≡ UnderWay r = ap (λ response. selectedBy (seenIn (unlessResponding Answering response) s)) (sym idle) ∙ found in
     ap₂ (λ (response found : Response). isIdle response && isResponding found (seenBy Fall s .at)) idle is
     ∙ eq-eqb (r .chip) (seenBy Fall s .at) (ap (λ (r : Reply). r .chip) (selected-is (seenBy Fall s) r found .1))
 
@@ -92,7 +92,7 @@ within e s put =
       line = λ i channel level. eq-eqb i i refl;
       first-pulse = λ r idle found. first-there s r idle found;
       last-rise = λ r under.
-          ap (λ response. isResponding response (lookedAt (respondingOr Nowhere response) s)) under ∙ eq-eqb (r .chip) (r .chip) refl;
+          ap (λ response. isResponding response (lookedAt (unlessResponding Nowhere response) s)) under ∙ eq-eqb (r .chip) (r .chip) refl;
     })
     e put in
     subst (λ (k : ℕ). replaces e s k ≡ true) (sym (there .0)) (there .1)

@@ -38,7 +38,7 @@ use Rattle.response.specs.declared.Response.the-variants.{Idle, UnderWay}
 use Rattle.decide.proofs.Rules.{changes}
 use Rattle.decide.proofs.Soundness.{selected-is}
 use Rattle.decide.specs.Decided.{decided}
-use Rattle.decide.specs.Look.{respondingOr}
+use Rattle.decide.specs.Look.{unlessResponding}
 use Rattle.decide.specs.Pulse.{driving, firstPulse, fallen}
 use Rattle.decide.specs.declared.Change.{Change}
 use Rattle.decide.specs.declared.Look.the-variants.{Answering}
@@ -160,7 +160,7 @@ answer-pointer : (s : Chain) (r : Reply) → verdictOf Fall s ≡ Accepted → i
 unfolding chainFields eventOf judged accepted counted decision decided fallen selected seenAt
 answer-pointer s r v idle is armed =
     subst (λ v. pointerAt (judged v Fall s .chain) (r .chip) ≡ r .channel) (sym v)
-    (subst (λ response. pointerAt (applied (fallen response (seenIn (respondingOr Answering response) s)) s) (r .chip) ≡ r .channel)
+    (subst (λ response. pointerAt (applied (fallen response (seenIn (unlessResponding Answering response) s)) s) (r .chip) ≡ r .channel)
     (sym (idle-is (s .response) idle))
     (first-pointer (selected s) s r refl is armed))
 

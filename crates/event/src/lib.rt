@@ -1,6 +1,7 @@
-// The eight events, and the four numbers that stand for each in a list: kind 1 to 8, chip, channel, value; unused ones are ignored.
+// The eight events; the four numbers that stand for each in a list: kind 1 to 8, chip, channel, value; unused ones are ignored; and the event number, which counts them.
 // The one crate that lists all of them beside what each does (`decide`) and what each is called (`steps`).
 ghost use mathlib.Core.Path.{_≡_};
+ghost use Rattle.event.specs.Counting.{nextNumber};
 ghost use Rattle.event.specs.Numbers.{listed};
 
 // The eight events, in the order of their kinds 1 to 8.
@@ -41,4 +42,11 @@ impl Listed {
             _ => Listed::Unknown,
         }
     }
+}
+
+// The event number after one more accepted event: from 65,535 it rolls over to 0.
+pub fn next_number(number: u16) -> u16
+    ensures { λ r. ⌜ r ≡ nextNumber number ⌝ }
+{
+    std::num::wrapping_add_u16(number, 1)
 }

@@ -21,7 +21,7 @@ use Rattle.decide.proofs.Passed.{passed-names}
 use Rattle.decide.proofs.Rules.{changes, decisions}
 use Rattle.decide.specs.Change.{nothing, setting}
 use Rattle.decide.specs.Decided.{decided}
-use Rattle.decide.specs.Look.{respondingOr, lookOf}
+use Rattle.decide.specs.Look.{unlessResponding, lookOf}
 use Rattle.decide.specs.Pulse.{selectedBy, firstPulse, fallen, risenAfter, risen}
 use Rattle.decide.specs.Refusals.{verdictOn}
 use Rattle.decide.specs.Sound.{seenSound}
@@ -140,7 +140,7 @@ past-enough Fall s here past = by (s .response) refl
           sound-seen = past-sound s _ _ here past;
         }
     by (UnderWay r) is =
-        let at : lookedAt (lookOf Fall (s .response)) s ≡ r .chip = ap (λ (response : Response). lookedAt (respondingOr Answering response) s) is in
+        let at : lookedAt (lookOf Fall (s .response)) s ≡ r .chip = ap (λ (response : Response). lookedAt (unlessResponding Answering response) s) is in
         absurd (omega (arith, past, at, under-way-parts s r here is .chip, count-le s here))
 past-enough Rise s here past = by (s .response) refl
   where
@@ -154,7 +154,7 @@ past-enough Rise s here past = by (s .response) refl
           sound-seen = past-sound s _ _ here past;
         }
     by (UnderWay r) is =
-        let at : lookedAt (lookOf Rise (s .response)) s ≡ r .chip = ap (λ (response : Response). lookedAt (respondingOr Nowhere response) s) is in
+        let at : lookedAt (lookOf Rise (s .response)) s ≡ r .chip = ap (λ (response : Response). lookedAt (unlessResponding Nowhere response) s) is in
         absurd (omega (arith, past, at, under-way-parts s r here is .chip, count-le s here))
 
 -- what an event is shown is enough
@@ -179,6 +179,6 @@ pub declines : (e : Event) (s : Chain) (v : Seen) (why : Refusal) → v ≡ show
 declines e s v why is here told = sym (is-refused e s (seenBy e s) why refl here (sym (enough e s v is here .verdict) ∙ told))
 
 -- a pulse looks at no Enable In
-pub no-ei : (look : Look) (response : Response) (s : Chain) → lookedEi look s ≡ false → lookedEi (respondingOr look response) s ≡ false
+pub no-ei : (look : Look) (response : Response) (s : Chain) → lookedEi look s ≡ false → lookedEi (unlessResponding look response) s ≡ false
 no-ei look Idle s e = e
 no-ei look (UnderWay r) s e = refl

@@ -7,6 +7,7 @@ ghost use Rattle.chain.specs.Apply.{counted};
 ghost use Rattle.chain.specs.Fields.{chipAt, withChip, withOwn};
 ghost use Rattle.image.specs.Reading.{chainIn, isImage};
 use chip::Chip;
+use event::next_number;
 use image::places::ENABLE;
 use image::places::EVENT_HIGH;
 use image::places::EVENT_LOW;
@@ -66,13 +67,13 @@ pub fn set_own(image: &mut [u8], enable: bool, iack: bool, response: Response)
     image[IACK] = bits::digit_of(iack);
 }
 
-// One more accepted event: from 65,535 the event number rolls over to 0.
+// One more accepted event is counted.
 pub fn count_event(image: &mut [u8])
     requires { ⌜ isImage (now image) ≡ true ⌝ }
     ensures { λ _. ⌜ isImage (now (image .exit)) ≡ true ⌝ }
     ensures { λ _. ⌜ chainIn (now (image .exit)) ≡ counted (chainIn (now (image .entry))) ⌝ }
 {
-    let event = std::num::wrapping_add_u16(event_of(image[EVENT_LOW], image[EVENT_HIGH]), 1);
+    let event = next_number(event_of(image[EVENT_LOW], image[EVENT_HIGH]));
     image[EVENT_LOW] = (event % 256) as u8;
     image[EVENT_HIGH] = (event / 256) as u8;
 }

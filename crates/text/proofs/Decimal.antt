@@ -9,7 +9,7 @@ use native.Mathlib.Omega.{arith}
 use borrow.Author.Tests.{ne-eqb}
 use lib.ListN.{length, set, take, drop, length-set, length-drop, drop-of-length-le}
 use lib.Seq.{take-all, drop-cons, drop-set-lt, getD-set-same, append-snoc}
-use Rattle.text.specs.Written.{decimalDigit, digits, decimal}
+use Rattle.text.specs.Written.{digits, decimal}
 
 -- a digit put down, and what stands behind it
 put-down : (ds : List ℕ) (j d : ℕ) → j < length ds → drop j (set ds j d) ≡ d ∷ drop (suc j) ds
@@ -22,7 +22,7 @@ pub last-digit : (ds : List ℕ) (n : ℕ) → length ds ≡ 20 → digits 19 (n
 unfolding decimal
 last-digit ds n is =
     ap (λ end. digits 19 (n / 10) ++ end)
-    (put-down ds 19 (48 + n % 10) (omega (arith, is)) ∙ ap (λ end. decimalDigit (n % 10) ∷ end) (drop-of-length-le ds (le-of-eq is)))
+    (put-down ds 19 (48 + n % 10) (omega (arith, is)) ∙ ap (λ end. (48 + n % 10) ∷ end) (drop-of-length-le ds (le-of-eq is)))
 
 -- the digit before those that stand there already
 pub digit-before :
@@ -34,8 +34,8 @@ pub digit-before :
 digit-before ds zero n some more room = absurd (omega (arith, some))
 digit-before ds (suc j) n some more room =
     let before : j ≡ suc j - 1 = omega arith in
-    ap (λ t. cond t [] (digits j (n / 10) ++ (decimalDigit (n % 10) ∷ [])) ++ drop (suc j) ds) (ne-eqb n 0 (λ is. omega (arith, is, more)))
-    ∙ append-snoc (digits j (n / 10)) (decimalDigit (n % 10)) (drop (suc j) ds)
+    ap (λ t. cond t [] (digits j (n / 10) ++ ((48 + n % 10) ∷ [])) ++ drop (suc j) ds) (ne-eqb n 0 (λ is. omega (arith, is, more)))
+    ∙ append-snoc (digits j (n / 10)) (48 + n % 10) (drop (suc j) ds)
     ∙ ap (λ end. digits j (n / 10) ++ end) (sym (put-down ds j (48 + n % 10) (omega (arith, room))))
     ∙ ap (λ (k : ℕ). digits k (n / 10) ++ drop k (set ds k (48 + n % 10))) before
 

@@ -12,7 +12,7 @@ use lib.Dec.{eqb}
 use lib.ListN.{length, set, drop, length-append}
 use lib.Seq.{set-append-seam, append-snoc}
 use Rattle.text.specs.Fits.{Fits}
-use Rattle.text.specs.Written.{text, written, decimalDigit, digits, decimal, hexByte, joined, field, byteField}
+use Rattle.text.specs.Written.{text, written, digits, decimal, hexByte, joined, field, byteField}
 
 -- behind what stands there already
 behind : (p rest new : List ℕ) → length new ≤ length rest → written (p ++ rest, length p) new ≡ (p ++ new ++ drop (length new) rest, length p + length new)
@@ -34,13 +34,13 @@ digits-le : (k n : ℕ) → length (digits k n) ≤ k
 digits-le zero n = le-refl 0
 digits-le (suc k) n = some (digits-le k (n / 10)) (eqb n 0)
   where
-    some : length (digits k (n / 10)) ≤ k → (t : Bool) → length (cond t [] (digits k (n / 10) ++ (decimalDigit (n % 10) ∷ []))) ≤ suc k
+    some : length (digits k (n / 10)) ≤ k → (t : Bool) → length (cond t [] (digits k (n / 10) ++ ((48 + n % 10) ∷ []))) ≤ suc k
     some before true = omega arith
-    some before false = omega (arith, before, length-append (digits k (n / 10)) (decimalDigit (n % 10) ∷ []))
+    some before false = omega (arith, before, length-append (digits k (n / 10)) ((48 + n % 10) ∷ []))
 
 pub decimal-le : (n : ℕ) → length (decimal n) ≤ 20
 unfolding decimal
-decimal-le n = omega (arith, digits-le 19 (n / 10), length-append (digits 19 (n / 10)) (decimalDigit (n % 10) ∷ []))
+decimal-le n = omega (arith, digits-le 19 (n / 10), length-append (digits 19 (n / 10)) ((48 + n % 10) ∷ []))
 
 -- parts none of which is longer than some length
 abbrev pub Each : ℕ → List (List ℕ) → Type 0

@@ -22,18 +22,14 @@ unfoldable pub written : List ℕ × ℕ → List ℕ → List ℕ × ℕ
 written to none = to
 written to (b then bs) = written (stored to b) bs
 
--- a decimal digit
-abbrev pub decimalDigit : ℕ → ℕ
-decimalDigit value = 48 + value
-
--- the digits of a number, none for zero, and at most k of them
+-- the decimal digits of a number, 48 for 0, and none for the number zero; at most k of them
 abbrev pub digits : ℕ → ℕ → List ℕ
 digits zero n = none
-digits (suc k) n = cond (eqb n 0) none (digits k (n / 10) ++ (decimalDigit (n % 10) then none))
+digits (suc k) n = cond (eqb n 0) none (digits k (n / 10) ++ ((48 + n % 10) then none))
 
 -- a number in decimal, without zeros in front: its last digit, and before it those that it has; nineteen and one are enough for 64 bits
 unfoldable pub decimal : ℕ → List ℕ
-decimal n = digits 19 (n / 10) ++ (decimalDigit (n % 10) then none)
+decimal n = digits 19 (n / 10) ++ ((48 + n % 10) then none)
 
 -- a hex digit, in upper case
 abbrev pub hexDigit : ℕ → ℕ

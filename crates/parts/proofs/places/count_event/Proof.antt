@@ -2,10 +2,11 @@
 -- Assumes nothing.
 use mathlib.Core.List.{List}
 use mathlib.Core.Path.{_≡_, ap, _∙_}
-use Prim.Native.Nat.{ℕ, _+_, _%_, _/_}
+use Prim.Native.Nat.{ℕ, _%_, _/_}
 use native.Mathlib.Omega.{arith}
 use lib.ListN.{set, length-set}
 use borrow.Author.Needs.{needs}
+use Rattle.event.specs.Counting.{nextNumber}
 use Rattle.chain.specs.Apply.{counted}
 use Rattle.image.specs.Reading.{chainIn, isImage}
 use Rattle.image.proofs.OneToOne.{image-length}
@@ -22,8 +23,8 @@ slice-read-event-of-2 c = omega (arith, image-length (c .before .before .before 
 event-of-requires : tie.Need-event-of-requires
 event-of-requires c κs = search needs
 
-wrapping-add-u16-requires : tie.Need-wrapping-add-u16-requires
-wrapping-add-u16-requires c κs = search needs
+next-number-requires : tie.Need-next-number-requires
+next-number-requires c κs = search needs
 
 cast-image : tie.Need-cast-image
 cast-image c = search needs
@@ -35,7 +36,7 @@ cast-image-2 : tie.Need-cast-image-2
 cast-image-2 c = search needs
 
 slice-write-image-2 : tie.Need-slice-write-image-2
-slice-write-image-2 c = omega (arith, image-length (c .before .before .before .before .before .args .image .now) (c .before .before .before .before .before .pre), length-set (c .before .before .before .before .before .args .image .now) 3 (c .wrapping-add-u16 .result % 256))
+slice-write-image-2 c = omega (arith, image-length (c .before .before .before .before .before .args .image .now) (c .before .before .before .before .before .pre), length-set (c .before .before .before .before .before .args .image .now) 3 (c .next-number .result % 256))
 
 same-length : tie.Need-same-length
 same-length c = search needs
@@ -44,9 +45,9 @@ returns : tie.Need-returns
 unfolding counted chainIn
 returns c =
     let b : List ℕ = c .before .before .before .before .before .args .image .now in
-    let event : c .wrapping-add-u16 .result ≡ (chainIn b .event + 1) % 65536 = c .wrapping-add-u16 .ensures ∙ ap (λ (n : ℕ). (n + 1) % 65536) (c .before .event-of .ensures) in
+    let event : c .next-number .result ≡ nextNumber (chainIn b .event) = c .next-number .ensures ∙ ap nextNumber (c .before .event-of .ensures) in
     let written = ap (λ (n : ℕ). set (set b 3 (n % 256)) 4 (n / 256)) event in
-    let held = event-set b ((chainIn b .event + 1) % 65536) (c .before .before .before .before .before .pre) in
+    let held = event-set b (nextNumber (chainIn b .event)) (c .before .before .before .before .before .pre) in
     (ap isImage written ∙ held .image, ap chainIn written ∙ held .holds-it)
 
 pub count-event-spec : {M : Type 1} → statement M
@@ -56,7 +57,7 @@ count-event-spec =
     slice-read-event-of
     slice-read-event-of-2
     event-of-requires
-    wrapping-add-u16-requires
+    next-number-requires
     cast-image
     slice-write-image
     cast-image-2
