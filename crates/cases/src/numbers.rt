@@ -3,17 +3,17 @@ use bench_case::Bench;
 use chain::Chain;
 
 // K1 start, status: 40. As after reset, so all is masked.
-pub fn k1() -> Bench {
+pub(crate) fn k1() -> Bench {
     Bench::start(1, 0).status(0, 0x40).imr(0, 0xFF)
 }
 
 // K2 then A1, status: 48.
-pub fn k2() -> Bench {
+pub(crate) fn k2() -> Bench {
     k1().command(0, 0xA1).status(0, 0x48)
 }
 
 // K3 then 28 and 58, status: C8, GINT pin 0.
-pub fn k3() -> Bench {
+pub(crate) fn k3() -> Bench {
     k2().command(0, 0x28)
         .command(0, 0x58)
         .status(0, 0xC8)
@@ -21,17 +21,17 @@ pub fn k3() -> Bench {
 }
 
 // K4 after K2, 2D and 5D instead: CD.
-pub fn k4() -> Bench {
+pub(crate) fn k4() -> Bench {
     k2().command(0, 0x2D).command(0, 0x5D).status(0, 0xCD)
 }
 
 // K5 after K3, fall gives 00, IRR 00; rise, data read gives 01.
-pub fn k5() -> Bench {
+pub(crate) fn k5() -> Bench {
     k3().fall(0x00).irr(0, 0x00).rise().read(0, 0x01)
 }
 
 // K6 F2 then data CD 34 12: accepted; a fourth is 9. Armed, 2A and 5A: three pulses drive CD, 34, 12.
-pub fn k6() -> Bench {
+pub(crate) fn k6() -> Bench {
     Bench::start(1, 0)
         .command(0, 0xF2)
         .data(0, 0xCD)
@@ -50,7 +50,7 @@ pub fn k6() -> Bench {
 }
 
 // K7 two chips, only chip 1 armed with 0 pending and unmasked: fall stalls, chip 1 has EI 0. Pending by a falling edge on its line.
-pub fn k7() -> Bench {
+pub(crate) fn k7() -> Bench {
     Bench::start(2, 0)
         .command(1, 0xA1)
         .command(1, 0x28)
@@ -62,7 +62,7 @@ pub fn k7() -> Bench {
 }
 
 // K8 both armed, chip 0 has 7 pending, chip 1 has 0: chip 0 answers 7. Chip 1's is pending by a rising edge, M4 set.
-pub fn k8() -> Bench {
+pub(crate) fn k8() -> Bench {
     Bench::start(2, 0)
         .command(0, 0xA1)
         .command(1, 0xA1)
@@ -82,7 +82,7 @@ pub fn k8() -> Bench {
 }
 
 // K9 ISR bit 3, fixed: pending 3 alone is no candidate; pending 2 is.
-pub fn k9() -> Bench {
+pub(crate) fn k9() -> Bench {
     Bench::start(1, 0)
         .command(0, 0xA1)
         .command(0, 0x20)
@@ -100,7 +100,7 @@ pub fn k9() -> Bench {
 }
 
 // K10 rotating, pointer 3, all unmasked and auto clear, pending 2, 3, 4: answered 4, 2, 3. An answer to 3 makes the pointer 3.
-pub fn k10() -> Bench {
+pub(crate) fn k10() -> Bench {
     Bench::start(1, 0)
         .command(0, 0x81)
         .command(0, 0xA1)
@@ -127,7 +127,7 @@ pub fn k10() -> Bench {
 }
 
 // K11 01, A3, D0 refused 7; 00, A2, CF accepted.
-pub fn k11() -> Bench {
+pub(crate) fn k11() -> Bench {
     Bench::start(1, 0)
         .command_refused(0, 0x01, 7)
         .command_refused(0, 0xA3, 7)
@@ -138,7 +138,7 @@ pub fn k11() -> Bench {
 }
 
 // K12 event number 65,535, any accepted event: 0. Each of the eight kinds, from a chip that waits for its IMR.
-pub fn k12() -> bool {
+pub(crate) fn k12() -> bool {
     let begun = Bench::start(1, 0).command(0, 0xB0).at_65535();
     let fallen = begun.fall_stalls();
     begun.command(0, 0xA1).rolled_over()
@@ -152,7 +152,7 @@ pub fn k12() -> bool {
 }
 
 // K13 counts 8 and 9 at start: 0 and 1; channels 7 and 8: 0 and 3.
-pub fn k13() -> bool {
+pub(crate) fn k13() -> bool {
     let nine = Chain::start(9, 0);
     let answer = nine.answer;
     let eight = Bench::start(8, 0).line(0, 7, 0).line_refused(0, 8, 0, 3);
@@ -160,7 +160,7 @@ pub fn k13() -> bool {
 }
 
 // K14 fall twice: second 6; a command then: 5.
-pub fn k14() -> Bench {
+pub(crate) fn k14() -> Bench {
     Bench::start(1, 0)
         .fall_stalls()
         .fall_refused(6)

@@ -24,7 +24,7 @@ impl Chip {
     }
 
     // A command write, with the code's row: it ends the earlier destination, and the row is carried out.
-    pub fn command(self, row: Command, code: u8) -> Chip
+    fn command(self, row: Command, code: u8) -> Chip
         requires { ⌜ figure4 code ≡ Row row ⌝ }
         ensures { λ r. ⌜ r ≡ commanded (Row row) code self ⌝ }
     {

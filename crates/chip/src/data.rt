@@ -43,7 +43,7 @@ impl Destination {
 
 impl Chip {
     // The byte count of a level: its code plus one.
-    pub fn byte_count(self, level: u8) -> u8
+    pub(crate) fn byte_count(self, level: u8) -> u8
         requires { ⌜ chipSound self ≡ true ⌝ }
         requires { ⌜ level < 8 ⌝ }
         ensures { λ r. ⌜ r ≡ byteCount (self .counts) level ⌝ }

@@ -16,7 +16,7 @@ use Rattle.views.specs.declared.PinView.{PinView}
 use Rattle.views.specs.declared.RegisterView.{RegisterView}
 use Rattle.demands.specs.Agree.{gintReadsActive, Agree, Agreement}
 use Rattle.demands.specs.Rules.{StatusBits}
-use Rattle.demands.proofs.Rules.{by-the-rules}
+use Rattle.demands.proofs.Rules.{byte-bits, by-the-rules}
 
 -- the pin by M3, read again by M3
 pin-read : (mode : ℕ) (m3 active : Bool) → bit mode 3 ≡ m3 → gintReadsActive mode (gintPin mode active) ≡ active
@@ -29,7 +29,7 @@ pin-read mode false false is = rw is refl
 pub one-state : (s : Chain) (chip : ℕ) → Agree (tableOf chip s) (pictureOf chip s)
 one-state s chip =
     let c : Chip = chipAt s chip in
-    let bits : StatusBits c (ei s chip) = by-the-rules .status-bits c (ei s chip) in
+    let bits : StatusBits (tableOf chip s .status) c (ei s chip) = byte-bits c (ei s chip) in
     record {
       events = refl;
       s6-is-ei = ap digit (bits .s6);

@@ -9,4 +9,4 @@ use Rattle.demands.specs.Corners.{corners}
 
 pub cornered : Hold corners
 unfolding rules registerView pinView all
-cornered = (refl, (refl, (refl, (refl, (refl, (refl, (refl, (refl, tt))))))))
+cornered = (refl, (refl, (refl, (refl, (refl, (refl, (refl, (refl, (refl, tt)))))))))

@@ -7,6 +7,8 @@ pub mod Demand3
 pub mod FromC
 pub mod Kept
 pub mod Misread
+pub mod Needed
+pub mod OneEvent
 pub mod Performed
 pub mod Puts
 pub mod Rules

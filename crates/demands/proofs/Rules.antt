@@ -1,7 +1,7 @@
 -- What an accepted event and the two views give, proved.
 -- Assumes nothing.
 use mathlib.Core.Bool.{Bool, true, false}
-use mathlib.Core.Path.{_≡_, refl, ap, sym, _∙_}
+use mathlib.Core.Path.{_≡_, refl, ap, sym, subst, _∙_}
 use Prim.Native.Nat.{ℕ, _+_, _*_, _/_, _%_, _<_}
 use native.Mathlib.Omega.{arith}
 use lib.Dec.{eqb}
@@ -26,6 +26,7 @@ use Rattle.chain.specs.Apply.{decision, answerOf, changed, counted}
 use Rattle.chain.specs.Events.{accepted, judged, eventOf}
 use Rattle.chain.specs.Seen.{seenAt, seenBy}
 use Rattle.chain.specs.Fields.{chipAt}
+use Rattle.chain.specs.Pins.{ei}
 use Rattle.chain.specs.Refusals.{verdictOf}
 use Rattle.chain.specs.Sound.{sound}
 use Rattle.chain.specs.declared.Chain.{Chain}
@@ -85,8 +86,8 @@ is-digit : (n : ℕ) (b : Bool) → n ≡ digit b → eqb n 1 ≡ b
 is-digit n true is = ap (λ (n : ℕ). eqb n 1) is
 is-digit n false is = ap (λ (n : ℕ). eqb n 1) is
 
-status-bits : (c : Chip) (ei : Bool) → StatusBits c ei
-status-bits c ei =
+pub byte-bits : (c : Chip) (ei : Bool) → StatusBits (statusByte c ei) c ei
+byte-bits c ei =
     let x : Bool = exists (candidateOf c) in
     let d : Digits (channelOf (candidateOf c)) (digit (isArmed c)) (digit (isPolled c)) (digit (isRotating c)) (digit ei) (digit x) (statusByte c ei) =
     digits (channelOf (candidateOf c)) (digit (isArmed c)) (digit (isPolled c)) (digit (isRotating c)) (digit ei) (digit x)
@@ -100,6 +101,10 @@ status-bits c ei =
       s6 = is-digit _ ei (d .s6);
       s7 = is-digit _ x (d .s7);
     }
+
+table-bits : (s : Chain) (chip : ℕ) → sound s ≡ true → chip < s .count → StatusBits (registerView chip s .table .status) (chipAt s chip) (ei s chip)
+table-bits s chip e h =
+    subst (λ (r : RegisterView). StatusBits (r .table .status) (chipAt s chip) (ei s chip)) (sym (table-given s chip e h)) (byte-bits (chipAt s chip) (ei s chip))
 
 -- a status read and the table take the same byte
 read-byte : (s : Chain) (chip : ℕ) → accepts (Status chip) s ≡ true
@@ -121,6 +126,6 @@ by-the-rules =
       table = table-given;
       picture = picture-given;
       status-read = read-byte;
-      status-bits = status-bits;
+      status-bits = table-bits;
       waiting-is-a-sum = λ s chip. eight (isWaiting (chipAt s chip .irr) (chipAt s chip .imr));
     }

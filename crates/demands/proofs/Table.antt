@@ -8,6 +8,7 @@ use native.Mathlib.Omega.{arith}
 use lib.Dec.{eqb, leb, ltb}
 use lib.ListN.{length, getD}
 use borrow.Author.Tests.{le-leb, lt-leb, leb-true, leb-false, ne-eqb, lt-ltb, le-ltb}
+use Rattle.figure4.proofs.Figure4.{undefined-codes}
 use Rattle.search.proofs.Order.{candidate-lt}
 use Rattle.search.specs.Candidate.{candidate, candidateNumber, channelOf, searchNumber}
 use Rattle.search.specs.declared.Candidate.{Candidate}
@@ -56,7 +57,7 @@ judged-number Accepted e s = answers-zero e s
 
 verdict-given : (e : Event) (s : Chain) → given (entries (notSound s ∷ checks e (seenBy e s))) ≡ given (eventEntries (inNumbers e) s)
 unfolding seenAt
-verdict-given (Command i code) s = refl
+verdict-given (Command i code) s = rw (sym (undefined-codes code)) refl
 verdict-given (Data i byte) s = refl
 verdict-given (Status i) s = refl
 verdict-given (Read i) s = refl

@@ -137,7 +137,7 @@ idle-is Idle e = refl
 idle-is (UnderWay r) e = not-both e
 
 -- chip i with another one put there
-put-there : (c : Change) (s : Chain) (i : ℕ) → c .replaces ≡ true → c .at ≡ i → isArmed (chipAt s i) ≡ true → chipAt (applied c s) i ≡ c .chip
+pub put-there : (c : Change) (s : Chain) (i : ℕ) → c .replaces ≡ true → c .at ≡ i → isArmed (chipAt s i) ≡ true → chipAt (applied c s) i ≡ c .chip
 unfolding applying
 put-there c s i put is armed =
     either (λ (t : Chain). chipAt t i ≡ c .chip) (c .sets) _ _ (λ set. there) (λ none. there)

@@ -1,6 +1,6 @@
 -- Corners that the paper decides in half a sentence, and docs/DECISIONS.md in a whole one: a bench case for each, in the form of K1 to K12.
 use mathlib.Core.List.{List, [], _∷_}
-use Rattle.event.specs.declared.Event.the-variants.{Command, Data, Status, Read, Enable, Fall, Rise}
+use Rattle.event.specs.declared.Event.the-variants.{Command, Data, Status, Read, Line, Enable, Fall, Rise}
 use Rattle.demands.specs.Bench.{Step, accepted, gives, refused, shows, onBench, gintPinOf, eiPinOf, ripPin, pausePin, irrOf, isrOf, imrOf}
 use Rattle.demands.specs.Cases.{Case, case}
 
@@ -22,6 +22,27 @@ lateEnable =
     ∷ accepted Rise
     ∷ gives Fall 0x00
     ∷ shows (isrOf 0) 0x01
+    ∷ []
+
+-- a request that arrives in a stalled pulse: GINT goes active, the pulse stalls on, and the next one answers
+abbrev pub requestInAStall : List Step
+requestInAStall =
+    accepted (Command 0 0xA1)
+    ∷ accepted (Command 0 0x2B)
+    ∷ accepted Fall
+    ∷ shows pausePin 0
+    ∷ shows (gintPinOf 0) 2
+    ∷ accepted (Line 0 3 0)
+    ∷ shows (irrOf 0) 0x08
+    ∷ shows (gintPinOf 0) 0
+    ∷ shows ripPin 1
+    ∷ shows pausePin 0
+    ∷ shows (isrOf 0) 0x00
+    ∷ accepted Rise
+    ∷ shows pausePin 1
+    ∷ gives Fall 0x00
+    ∷ shows (isrOf 0) 0x08
+    ∷ shows pausePin 1
     ∷ []
 
 -- a polled chip has S7 and no GINT, and passes the acknowledge on
@@ -142,4 +163,5 @@ corners =
     ∷ case 6 (onBench 2 0 anotherChipReset)
     ∷ case 7 (onBench 1 0 destinationEnds)
     ∷ case 8 (onBench 1 0 duringAPulse)
+    ∷ case 9 (onBench 1 0 requestInAStall)
     ∷ []

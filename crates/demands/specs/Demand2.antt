@@ -10,7 +10,7 @@ use Rattle.demands.specs.Rules.{ByTheRules}
 use Rattle.demands.specs.Runs.{Runs}
 
 pub record Demand2 : Type 0 where
-  -- the rules are those of the paper: its bench cases K1 to K12 come out as written, none of its five misreadings does, and eight corners go as decided
+  -- the rules are those of the paper: its bench cases K1 to K12 come out as written, none of its five misreadings does, and nine corners go as decided
   pub bench : Hold cases
   pub not-misread : Hold misreadings
   pub cornered : Hold corners
@@ -18,7 +18,8 @@ pub record Demand2 : Type 0 where
   pub by-the-rules : ByTheRules
   -- a sound chain stays sound, all chips but at most one are unchanged, records past the count never change, the event number counts accepted events
   pub kept : Kept
-  -- a run accepts the events before its limit, its end or its first refusal, performs each on the chain that those before it leave, and reports how many
+  -- a run accepts the events before its limit, its end or its first refusal, performs each on the chain that those before it leave, and reports how many; a run of one event
+  -- does what its call does
   pub runs : Runs
   -- the picture and the table of a state agree, whatever the state
   pub agreement : Agreement

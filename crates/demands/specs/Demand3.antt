@@ -10,6 +10,7 @@ use Rattle.chain.specs.Fields.{chipAt}
 use Rattle.chain.specs.declared.Chain.{Chain}
 use Rattle.event.specs.declared.Event.{Event}
 use Rattle.demands.specs.Along.{after}
+use Rattle.demands.specs.Needed.{Needed}
 use Rattle.demands.specs.Wait.{waits, Waited, answersIt, others, isCounted, pulses}
 use Rattle.demands.specs.Worked.{WorkedWait, BehindOthers, RefusedFalls}
 
@@ -28,3 +29,5 @@ pub record Demand3 : Type 0 where
   pub behind-others : BehindOthers
   -- a refused fall is no first pulse, and no number of them ends a wait
   pub refused-falls : RefusedFalls
+  -- and no condition can be left out, but for one that another makes sure of
+  pub needed : Needed

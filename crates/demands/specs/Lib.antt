@@ -9,6 +9,7 @@ pub mod Demand3
 pub mod FromC
 pub mod Kept
 pub mod Misread
+pub mod Needed
 pub mod Rules
 pub mod Runs
 pub mod Table

@@ -5,13 +5,15 @@ use Prim.Native.Nat.{ℕ, _+_, _%_, _<_}
 use Rattle.bits.specs.Below.{digit}
 use Rattle.bits.specs.Byte.{bit}
 use Rattle.search.specs.Candidate.{exists, channelOf}
-use Rattle.chip.specs.Status.{isArmed, isPolled, isRotating, candidateOf, statusByte}
+use Rattle.chip.specs.Status.{isArmed, isPolled, isRotating, candidateOf}
 use Rattle.chip.specs.declared.Chip.{Chip}
 use Rattle.refusal.specs.Answers.{handed}
 use Rattle.refusal.specs.declared.Verdict.the-variants.{Accepted}
 use Rattle.views.specs.Views.{tableOf, pictureOf, registerView, pinView}
 use Rattle.chain.specs.Apply.{answerOf, changed, counted}
 use Rattle.chain.specs.Events.{eventOf}
+use Rattle.chain.specs.Fields.{chipAt}
+use Rattle.chain.specs.Pins.{ei}
 use Rattle.chain.specs.Sound.{sound}
 use Rattle.chain.specs.declared.Chain.{Chain}
 use Rattle.event.specs.declared.Event.{Event}
@@ -19,14 +21,14 @@ use Rattle.event.specs.declared.Event.the-variants.{Status}
 use Rattle.views.specs.declared.Registers.{Registers}
 use Rattle.demands.specs.Along.{accepts}
 
--- the bits of a chip's status byte, with its EI at a level
-pub record StatusBits (c : Chip) (ei : Bool) : Type 0 where
-  pub s2-to-s0 : statusByte c ei % 8 ≡ channelOf (candidateOf c)
-  pub s3 : bit (statusByte c ei) 3 ≡ isArmed c
-  pub s4 : bit (statusByte c ei) 4 ≡ isPolled c
-  pub s5 : bit (statusByte c ei) 5 ≡ isRotating c
-  pub s6 : bit (statusByte c ei) 6 ≡ ei
-  pub s7 : bit (statusByte c ei) 7 ≡ exists (candidateOf c)
+-- the bits of a status byte, for a chip with its EI at a level
+pub record StatusBits (status : ℕ) (c : Chip) (ei : Bool) : Type 0 where
+  pub s2-to-s0 : status % 8 ≡ channelOf (candidateOf c)
+  pub s3 : bit status 3 ≡ isArmed c
+  pub s4 : bit status 4 ≡ isPolled c
+  pub s5 : bit status 5 ≡ isRotating c
+  pub s6 : bit status 6 ≡ ei
+  pub s7 : bit status 7 ≡ exists (candidateOf c)
 
 -- 1 if a channel is set in the table's IRR and clear in its IMR, else 0
 abbrev pub waitsIn : Registers → ℕ → ℕ
@@ -38,10 +40,11 @@ pub record ByTheRules : Type 0 where
   -- the views of a chip in the count of a sound chain are given: each register, the status byte and each pin, with the chain's event number
   pub table : (s : Chain) (chip : ℕ) → sound s ≡ true → chip < s .count → registerView chip s ≡ record { verdict = Accepted; table = tableOf chip s }
   pub picture : (s : Chain) (chip : ℕ) → sound s ≡ true → chip < s .count → pinView chip s ≡ record { verdict = Accepted; picture = pictureOf chip s }
-  -- the status byte that is read is that of the table of the same state, and has these bits
+  -- the status byte that is read is that of the table of the same state
   pub status-read : (s : Chain) (chip : ℕ) → accepts (Status chip) s ≡ true
       → handed (eventOf (Status chip) s .answer) .byte ≡ registerView chip s .table .status
-  pub status-bits : (c : Chip) (ei : Bool) → StatusBits c ei
+  -- and the table's own has these bits of its chip, S6 being that chip's EI
+  pub status-bits : (s : Chain) (chip : ℕ) → sound s ≡ true → chip < s .count → StatusBits (registerView chip s .table .status) (chipAt s chip) (ei s chip)
   -- the waiting number is a sum over the eight channels of the table's own IRR and IMR
   pub waiting-is-a-sum : (s : Chain) (chip : ℕ)
       → tableOf chip s .waiting

@@ -9,7 +9,7 @@ use lib.ListN.{getD, length}
 use Rattle.refusal.specs.Numbers.{verdictNumber}
 use Rattle.search.specs.Candidate.{searchNumber}
 use Rattle.chip.specs.Data.{hasNoDestination, isPastItsCount}
-use Rattle.figure4.specs.Figure4.{figure4, undefined}
+use Rattle.figure4.specs.Undefined.{isUndefined}
 use Rattle.refusal.specs.Answers.{handed}
 use Rattle.views.specs.Views.{registerView, pinView}
 use Rattle.chain.specs.Events.{eventOf}
@@ -52,8 +52,8 @@ eventEntries e s =
     ∷ (5, leb (e .kind) 4 && not (s .iack))
     -- IACK already at that level: a fall while it is low, a rise while it is high
     ∷ (6, cond (eqb (e .kind) 7) (not (s .iack)) (eqb (e .kind) 8 && s .iack))
-    -- undefined command
-    ∷ (7, eqb (e .kind) 1 && undefined (figure4 (e .value)))
+    -- undefined command: a code of 01 to 0F, 1010xx11, D0 to DF
+    ∷ (7, eqb (e .kind) 1 && isUndefined (e .value))
     -- data write, no destination
     ∷ (8, eqb (e .kind) 2 && hasNoDestination (chipAt s (e .chip) .destination))
     -- data write to a level, place at or past its count

@@ -1,14 +1,16 @@
--- Which codes are in no row of Figure 4, computed over all 256, how wide the numbers of a row are, and that one code alone gives the reset's row.
+-- The codes in no row of Figure 4 are those that the paper lists, computed over all 256; how wide the numbers of a row are, and that one code alone gives the reset's row.
 -- Assumes nothing.
 use mathlib.Core.Bool.{Bool, true, false, not, cond, _&&_, _||_, false≢true}
 use mathlib.Core.Path.{_≡_, refl, ap, sym, _∙_}
-use Prim.Native.Nat.{ℕ, _/_, _%_, _<_}
+use Prim.Native.Nat.{ℕ, _/_, _%_, _≤_, _<_}
 use native.Mathlib.Nat.{mod-lt, mod-eq-of-lt}
+use native.Mathlib.Omega.{arith}
 use lib.Dec.{eqb, leb, ltb, lit<}
-use borrow.Author.Tests.{lt-ltb, ltb-true, not-true}
+use borrow.Author.Tests.{le-leb, lt-leb, lt-ltb, ltb-true, ltb-false, ne-eqb, not-true}
 use Rattle.bits.proofs.Below.{either, both-left, both-right, tested}
 use Rattle.bits.specs.Byte.{bit}
 use Rattle.figure4.specs.Figure4.{isReset, loadRead, allOrOne, rowIn, figure4, undefined}
+use Rattle.figure4.specs.Undefined.{isOfKind, isUndefined}
 use Rattle.figure4.specs.declared.Command.{Command}
 use Rattle.figure4.specs.declared.Command.the-variants.{Reset, ClearIrrAndImr, ClearIrrAndImrBit, ClearImr, ClearImrBit, SetImr, SetImrBit, ClearIrr, ClearIrrBit, SetIrr, SetIrrBit, ClearHighestIsr, ClearIsr, ClearIsrBit, LoadMode, LoadRead, LoadReadAndArm, LoadReadAndDisarm, PreselectImr, PreselectAcr, PreselectLevel}
 use Rattle.figure4.specs.declared.Meaning.{Meaning}
@@ -16,25 +18,47 @@ use Rattle.figure4.specs.declared.Meaning.the-variants.{Row, Undefined}
 use Rattle.figure4.specs.declared.Undefined as kinds
 use Rattle.figure4.specs.declared.Undefined.the-variants.{Codes01To0F, Codes1010xx11, CodesD0ToDF}
 
--- codes 01 to 0F hex, 1010xx11 binary, and D0 to DF hex
-abbrev pub namedAs : kinds.Undefined → ℕ → Bool
-namedAs Codes01To0F code = leb 0x01 code && leb code 0x0F
-namedAs Codes1010xx11 code = eqb (code / 16) 0b1010 && eqb (code % 4) 0b11
-namedAs CodesD0ToDF code = leb 0xD0 code && leb code 0xDF
+-- a number that is no code is in the last row, and in no kind
+past-the-codes : (code : ℕ) → 256 ≤ code → undefined (rowIn (code / 16) code) ≡ isUndefined code
+past-the-codes code h =
+    simp (
+      other code 0x0 h (lit< tt),
+      other code 0x1 h (lit< tt),
+      other code 0x2 h (lit< tt),
+      other code 0x3 h (lit< tt),
+      other code 0x4 h (lit< tt),
+      other code 0x5 h (lit< tt),
+      other code 0x6 h (lit< tt),
+      other code 0x7 h (lit< tt),
+      other code 0x8 h (lit< tt),
+      other code 0x9 h (lit< tt),
+      other code 0xA h (lit< tt),
+      other code 0xB h (lit< tt),
+      other code 0xC h (lit< tt),
+      other code 0xD h (lit< tt),
+      le-leb 0x01 code (omega arith),
+      lt-leb code 0x0F (omega arith),
+      le-leb 0xD0 code (omega arith),
+      lt-leb code 0xDF (omega arith),
+    )
+  where
+    other : (code high : ℕ) → 256 ≤ code → high < 16 → eqb (code / 16) high ≡ false
+    other code high h low = ne-eqb (code / 16) high (λ is. absurd (omega (arith, is)))
 
-abbrev pub namedUndefined : ℕ → Bool
-namedUndefined code = namedAs Codes01To0F code || namedAs Codes1010xx11 code || namedAs CodesD0ToDF code
-
-pub undefined-codes : (code : ℕ) → code < 256 → undefined (figure4 code) ≡ namedUndefined code
+pub undefined-codes : (code : ℕ) → undefined (figure4 code) ≡ isUndefined code
 unfolding figure4
-undefined-codes code h = tested 256 (λ code. undefined (figure4 code)) namedUndefined tt code h
+undefined-codes code = by (ltb code 256) refl
+  where
+    by : (is-code : Bool) → ltb code 256 ≡ is-code → undefined (rowIn (code / 16) code) ≡ isUndefined code
+    by true h = tested 256 (λ code. undefined (rowIn (code / 16) code)) isUndefined tt code (ltb-true code 256 h)
+    by false h = past-the-codes code (ltb-false code 256 h)
 
 -- each is told as what it is
 abbrev rightly : Meaning → ℕ → Bool
 rightly (Row row) code = true
-rightly (Undefined kind) code = namedAs kind code
+rightly (Undefined kind) code = isOfKind kind code
 
-pub undefined-kind : (code : ℕ) (kind : kinds.Undefined) → code < 256 → figure4 code ≡ Undefined kind → namedAs kind code ≡ true
+pub undefined-kind : (code : ℕ) (kind : kinds.Undefined) → code < 256 → figure4 code ≡ Undefined kind → isOfKind kind code ≡ true
 unfolding figure4
 undefined-kind code kind h e =
     ap (λ (m : Meaning). rightly m code) (sym e) ∙ tested 256 (λ code. rightly (figure4 code) code) (λ code. true) tt code h

@@ -1,1 +1,2 @@
 pub mod Figure4
+pub mod Undefined

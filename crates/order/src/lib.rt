@@ -4,7 +4,7 @@ ghost use mathlib.Core.Path.{_≡_};
 ghost use Rattle.order.specs.Order.{channelAt, firstChannel};
 
 // The channel at a place of the order that ends with `last`.
-pub fn channel_at(last: u8, place: u8) -> u8
+fn channel_at(last: u8, place: u8) -> u8
     ensures { λ r. ⌜ r ≡ channelAt last place ⌝ }
 {
     (last % 8 + 1 + place % 8) % 8

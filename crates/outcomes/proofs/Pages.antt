@@ -12,7 +12,7 @@ use Rattle.outcomes.specs.Pages.{pageOfReply, takenOf, OnePage}
 use Rattle.outcomes.proofs.Outcomes.{only, the-one}
 
 -- the promise to leave a buffer and a place as a definition writes them
-the-written : (w : List ℕ × ℕ) → Only (Unit {0}) (λ (o : ℕ × List ℕ). _≡_ {A = List ℕ × ℕ} (o .1, o .0) w) (w .1, w .0)
+pub the-written : (w : List ℕ × ℕ) → Only (Unit {0}) (λ (o : ℕ × List ℕ). _≡_ {A = List ℕ × ℕ} (o .1, o .0) w) (w .1, w .0)
 the-written w = only _ refl (λ o is. ap (λ (p : List ℕ × ℕ). (p .1, p .0)) is)
 
 -- and to tell a reply: the report after it, whether it ended, and the page with its length

@@ -1,2 +1,4 @@
 pub mod Outcomes
+pub mod PageParts
 pub mod Pages
+pub mod Parts

@@ -28,6 +28,10 @@ pageOfReply said page = written (page, 0) (said .print)
 abbrev pub takenOf : Reply → List ℕ → Taken
 takenOf said page = record { report = said .report; length = pageOfReply said page .1; ended = said .ended }
 
+-- a call that writes a text from a place on into a lent buffer: its outcome is the place behind it, and every byte of the buffer. (As `Writes`)
+abbrev pub Puts : {L In : Type 0} → (L → In → Type 0) → (L → In → ℕ → In → Type 0) → L → (RefT (List ℕ) → In) → RefT (List ℕ) → ℕ → List ℕ → Type 0
+Puts asked post lent args to at text = let w : List ℕ × ℕ = written (to .now, at) text in Writes asked post lent args to (w .1) (w .0)
+
 pub record OnePage : Type 0 where
   -- a report before its first line takes nothing
   pub new : Determined report-new.Asked report-new.Post tt tt atFirst
@@ -36,8 +40,7 @@ pub record OnePage : Type 0 where
       → Determined step-of.Asked step-of.Post lent (started, (line, tt)) (stepOf started (line .now))
   -- the page of any kind, answer and chain, written from any place on into a lent buffer of any length: the place behind it, and every byte of the buffer
   pub page : (lent : Lfts 1) (to : RefT (List ℕ)) (at kind : ℕ) (answer : Answer) (s : Chain)
-      → let w : List ℕ × ℕ = written (to .now, at) (pageOf kind answer s) in
-      Writes put-page.Asked put-page.Post lent (λ to. (to, (at, (kind, (answer, (s, tt)))))) to (w .1) (w .0)
+      → Puts put-page.Asked put-page.Post lent (λ to. (to, (at, (kind, (answer, (s, tt)))))) to at (pageOf kind answer s)
   -- a line, and the last one, of any report and any lent bytes, onto a lent page of any length: the report after it, what it printed, and whether it ended
   pub take : (lent : Lfts 2) (r : Report) (line page : RefT (List ℕ))
       → let said : Reply = reply (line .now) r in

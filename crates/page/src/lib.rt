@@ -1,6 +1,6 @@
 // What a page says of a state: the event, and for each chip in the count the line of its pins and the line of its registers, all with one event number.
 // A page is written into a lent buffer. The page stands here, its lines in lines.rt.
-pub mod lines;
+mod lines;
 
 ghost use mathlib.Core.Path.{_≡_};
 ghost use Rattle.page.specs.Page.{chipsFrom, chipLines, byteText, eventParts, pageOf};

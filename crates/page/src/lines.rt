@@ -11,7 +11,7 @@ use views::RegisterView;
 use views::Registers;
 
 // The line of the pins, from the pin view.
-pub fn put_pins_line(to: &mut [u8], at: usize, i: u8, view: PinView) -> usize
+pub(crate) fn put_pins_line(to: &mut [u8], at: usize, i: u8, view: PinView) -> usize
     ensures { λ r. ⌜ (now (to .exit), r) ≡ written (now (to .entry), at) (pinsLine i view) ⌝ }
 {
     let verdict = view.verdict;
@@ -24,7 +24,7 @@ pub fn put_pins_line(to: &mut [u8], at: usize, i: u8, view: PinView) -> usize
 }
 
 // The line of the registers, from the register view.
-pub fn put_registers_line(to: &mut [u8], at: usize, i: u8, view: RegisterView) -> usize
+pub(crate) fn put_registers_line(to: &mut [u8], at: usize, i: u8, view: RegisterView) -> usize
     ensures { λ r. ⌜ (now (to .exit), r) ≡ written (now (to .entry), at) (registersLine i view) ⌝ }
 {
     let verdict = view.verdict;

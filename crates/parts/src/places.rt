@@ -23,7 +23,7 @@ use image::writing::response_bytes;
 use response::Response;
 
 // Chip i; past the eight records, a chip that is all zero.
-pub fn chip_at(image: &[u8], i: u8) -> Chip
+pub(crate) fn chip_at(image: &[u8], i: u8) -> Chip
     requires { ⌜ isImage (now image) ≡ true ⌝ }
     ensures { λ r. ⌜ r ≡ chipAt (chainIn (now (image .entry))) i ⌝ }
 {
@@ -35,7 +35,7 @@ pub fn chip_at(image: &[u8], i: u8) -> Chip
 }
 
 // The chip in record i, counted round the eight: for i below 8, chip i. A number from the list is not yet known to be below the count, and this needs no test.
-pub fn chip_round(image: &[u8], i: u8) -> Chip
+pub(crate) fn chip_round(image: &[u8], i: u8) -> Chip
     requires { ⌜ isImage (now image) ≡ true ⌝ }
     ensures { λ r. ⌜ r ≡ chipAt (chainIn (now (image .entry))) (i % 8) ⌝ }
 {
@@ -44,7 +44,7 @@ pub fn chip_round(image: &[u8], i: u8) -> Chip
 }
 
 // Chip i replaced. Its place is worked out as `chip_round` does, so that the compiler sees the same record, and what is unchanged in it is not written.
-pub fn set_chip(image: &mut [u8], i: u8, chip: Chip)
+pub(crate) fn set_chip(image: &mut [u8], i: u8, chip: Chip)
     requires { ⌜ isImage (now image) ≡ true ⌝ }
     requires { ⌜ i < 8 ⌝ }
     ensures { λ _. ⌜ isImage (now (image .exit)) ≡ true ⌝ }
@@ -56,7 +56,7 @@ pub fn set_chip(image: &mut [u8], i: u8, chip: Chip)
 }
 
 // The chain's own fields set: Enable In, IACK and the response.
-pub fn set_own(image: &mut [u8], enable: bool, iack: bool, response: Response)
+pub(crate) fn set_own(image: &mut [u8], enable: bool, iack: bool, response: Response)
     requires { ⌜ isImage (now image) ≡ true ⌝ }
     ensures { λ _. ⌜ isImage (now (image .exit)) ≡ true ⌝ }
     ensures { λ _. ⌜ chainIn (now (image .exit)) ≡ withOwn enable iack response (chainIn (now (image .entry))) ⌝ }

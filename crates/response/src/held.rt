@@ -50,7 +50,7 @@ impl Response {
     }
 
     // Whether chip i is responding.
-    pub fn is_of(self, i: u8) -> bool
+    pub(crate) fn is_of(self, i: u8) -> bool
         ensures { λ r. ⌜ r ≡ isResponding self i ⌝ }
     {
         match self {

@@ -12,7 +12,7 @@ pub enum Candidate {
 }
 
 // The channel that ends the order in force.
-pub fn last_of(mode: u8, pointer: u8) -> u8
+fn last_of(mode: u8, pointer: u8) -> u8
     ensures { λ r. ⌜ r ≡ lastOf mode pointer ⌝ }
 {
     if bits::is_set(mode, 0) { pointer } else { 7 }

@@ -17,7 +17,7 @@ pub const KINDS: u8 = 9;
 const NAMES: [u8; 52] = *b"start\ncommand\ndata\nstatus\nread\nline\nenable\nfall\nrise";
 
 // The kind of the step that a word names; the number of kinds where it names none.
-pub fn kind_of(word: &[u8]) -> u8
+pub(crate) fn kind_of(word: &[u8]) -> u8
     ensures { λ r. ⌜ r ≡ kindOf (now (word .entry)) ⌝ }
 {
     place_in(&NAMES, KINDS, word)

@@ -20,7 +20,7 @@ pub fn put(to: &mut [u8], at: usize, from: &[u8]) -> usize
 }
 
 // A number in decimal.
-pub fn put_decimal(to: &mut [u8], at: usize, n: u64) -> usize
+fn put_decimal(to: &mut [u8], at: usize, n: u64) -> usize
     ensures { λ r. ⌜ (now (to .exit), r) ≡ written (now (to .entry), at) (decimal n) ⌝ }
 {
     let mut digits = [0u8; 20];
@@ -46,7 +46,7 @@ fn spell(digits: &mut [u8], n: u64) -> usize
 }
 
 // A byte as two hex digits.
-pub fn put_hex(to: &mut [u8], at: usize, byte: u8) -> usize
+fn put_hex(to: &mut [u8], at: usize, byte: u8) -> usize
     ensures { λ r. ⌜ (now (to .exit), r) ≡ written (now (to .entry), at) (hexByte byte) ⌝ }
 {
     let pair = [hex_digit(byte / 16), hex_digit(byte % 16)];

@@ -68,7 +68,7 @@ fn is_letter(c: u8) -> bool
 }
 
 // Whether two texts are the same.
-pub fn same(a: &[u8], b: &[u8]) -> bool
+pub(crate) fn same(a: &[u8], b: &[u8]) -> bool
     ensures { λ r. ⌜ r ≡ Words·same (now (a .entry)) (now (b .entry)) ⌝ }
 {
     if a.len() != b.len() {
