@@ -65,10 +65,12 @@ uint8_t am9519a_candidate(uint8_t irr, uint8_t imr, uint8_t isr, uint8_t mode, u
  * In all calls
  *   - a buffer is a pointer and then its length in bytes; the pointer must be valid for that length, never null, not even for a length
  *     of 0, for which any other pointer will do,
- *   - a buffer that is written, and *accepted, must not overlap any other buffer of the call, and nobody else may use it during the call,
+ *   - a buffer that is written, and *accepted, must not overlap any other buffer of the call, and nobody else may use it during the call;
+ *     nobody may write one that is read,
  *   - the number handed back is 0, or that of the refusal: of several, the lowest, except where a call says otherwise,
- *   - a refused call writes nothing, am9519a_run apart when an event is what it refuses. Bytes of a longer buffer past those named are
- *     left as they are.
+ *   - a refused call writes nothing, am9519a_run apart when an event is what it refuses. So a refused start leaves the old chain in the
+ *     image, and a refused view the old bytes in its buffer: look at the number before you go on. Bytes of a longer buffer past those
+ *     named are left as they are.
  */
 #define AM9519A_IMAGE 528
 
@@ -146,7 +148,8 @@ uint8_t am9519a_candidate(uint8_t irr, uint8_t imr, uint8_t isr, uint8_t mode, u
  * count code to fill modulo 4. EI and IACK are high, there is no response, the event number is 0.
  *
  * Writes the image, and reads nothing of it. Its length must be 528.
- * Returns 0, or AM9519A_REFUSED_CHAIN if the length is another or count is outside 1 to 8.
+ * Returns 0, or AM9519A_REFUSED_CHAIN if the length is another or count is outside 1 to 8; the image is then left as it was, with
+ * whatever chain it held.
  */
 uint8_t am9519a_start(uint8_t count, uint8_t fill, uint8_t *image, size_t image_length);
 
@@ -172,7 +175,7 @@ uint8_t am9519a_run(uint8_t *image, size_t image_length, const uint8_t *events, 
  * The register view: what one chip holds.
  *
  * Reads the image. Writes the first 9 bytes of view.
- * Returns 0, or AM9519A_REFUSED_CHAIN, AM9519A_REFUSED_CHIP, or AM9519A_REFUSED_ROOM if view_length is below 9.
+ * Returns 0, or AM9519A_REFUSED_CHAIN, AM9519A_REFUSED_CHIP, or AM9519A_REFUSED_ROOM if view_length is below 9; view is then left as it was.
  */
 #define AM9519A_REGISTERS 9
 #define AM9519A_REGISTERS_EVENT 0 /* the event number: low byte here, high byte next */
@@ -190,7 +193,7 @@ uint8_t am9519a_registers(const uint8_t *image, size_t image_length, uint8_t chi
  * The pin view: one chip's EI, EO and GINT, and the chain's RIP, PAUSE and IACK. 0 is low and 1 is high.
  *
  * Reads the image. Writes the first 8 bytes of view.
- * Returns 0, or AM9519A_REFUSED_CHAIN, AM9519A_REFUSED_CHIP, or AM9519A_REFUSED_ROOM if view_length is below 8.
+ * Returns 0, or AM9519A_REFUSED_CHAIN, AM9519A_REFUSED_CHIP, or AM9519A_REFUSED_ROOM if view_length is below 8; view is then left as it was.
  */
 #define AM9519A_PINS 8
 #define AM9519A_PINS_EVENT 0 /* the event number: low byte here, high byte next */

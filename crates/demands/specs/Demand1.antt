@@ -16,7 +16,8 @@ pub record Demand1 : Type 0 where
   pub one-page-part : OnePagePart
   -- its refusal is the first of the table that applies
   pub by-the-table : ByTheTable
-  -- a refusal leaves the chain and every lent byte as they were; of a run that is refused at an event, what it accepted before stays
+  -- a refusal leaves the chain and every lent byte as they were; of a run that is refused at an event, what it accepted before stays. (A report prints its
+  -- refusal onto the lent page: that is its answer)
   pub unchanged : Unchanged
   -- the calls from C go by the same table, and a refused one leaves every lent buffer as it was; of a run that holds where no event is what it refuses
   pub from-c : FromC
