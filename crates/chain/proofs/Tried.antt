@@ -1,4 +1,4 @@
--- The definitions of a chain tried where no event list from a start leads: refused starts, records that are not sound, absent chips.
+-- The definitions of a chain tried: its start, and where no event list from a start leads: refused starts, records that are not sound, absent chips.
 -- Assumes nothing.
 use mathlib.Core.Bool.{Bool, true, false}
 use mathlib.Core.Path.{_≡_, refl}
@@ -7,7 +7,7 @@ use Rattle.chip.specs.Fields.{withPointer}
 use Rattle.chip.specs.Reset.{powerUp}
 use Rattle.refusal.specs.Answers.{handed}
 use Rattle.chain.specs.Events.{eventOf}
-use Rattle.chain.specs.Fields.{withChip, withOwn, zeroChain}
+use Rattle.chain.specs.Fields.{chipAt, withChip, withOwn, zeroChain}
 use Rattle.chain.specs.Sound.{sound}
 use Rattle.chain.specs.Start.{started, startOf}
 use Rattle.chain.specs.declared.Chain.{Chain}
@@ -20,6 +20,21 @@ use Rattle.chain.proofs.Rules.{rules}
 starts : (fill : ℕ) → (handed (startOf 0 fill .answer) .number ≡ 1) × (startOf 9 fill .chain ≡ zeroChain)
 unfolding rules
 starts fill = (refl, refl)
+
+-- a start: each of the eight records is the power-up chip, EI and IACK are high, no response is under way, the event number is 0
+at-the-start :
+    let s : Chain = startOf 3 0x5A .chain in
+    (chipAt s 0 ≡ powerUp 0x5A)
+    × (chipAt s 2 ≡ powerUp 0x5A)
+    × (chipAt s 3 ≡ powerUp 0x5A)
+    × (chipAt s 7 ≡ powerUp 0x5A)
+    × (s .count ≡ 3)
+    × (s .enable ≡ true)
+    × (s .iack ≡ true)
+    × (s .response ≡ Idle)
+    × (s .event ≡ 0)
+unfolding rules
+at-the-start = (refl, refl, refl, refl, refl, refl, refl, refl, refl)
 
 sound-starts : (sound (startOf 1 0xFF .chain) ≡ true) × (sound (startOf 8 0xFF .chain) ≡ true)
 unfolding rules

@@ -22,6 +22,7 @@ use Rattle.demands.specs.Demand3.{Demand3}
 use Rattle.demands.specs.Wait.{waits, resets, isWait, Waited, isFirstPulse, answersIt, answersAnother, others, reaches, isCounted, pulses}
 use Rattle.demands.proofs.Kept.{events-keep}
 use Rattle.demands.proofs.Needed.{needed}
+use Rattle.demands.proofs.ResetEnds.{reset-ends}
 use Rattle.demands.proofs.Wait.{pointerAt, first-pulse-parts, Nearer, wait-step, counted-answered}
 use Rattle.demands.proofs.Worked.{worked, behind-others, refused-falls}
 
@@ -125,4 +126,5 @@ demand-3 =
       behind-others = behind-others;
       refused-falls = refused-falls;
       needed = needed;
+      reset-ends = reset-ends;
     }

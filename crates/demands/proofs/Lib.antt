@@ -11,6 +11,7 @@ pub mod Needed
 pub mod OneEvent
 pub mod Performed
 pub mod Puts
+pub mod ResetEnds
 pub mod Rules
 pub mod Runs
 pub mod Table

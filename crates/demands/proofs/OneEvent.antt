@@ -1,21 +1,19 @@
 -- A run of one event does what the event's own call does.
 -- Assumes nothing.
-use mathlib.Core.Bool.{Bool, true, false, cond}
+use mathlib.Core.Bool.{Bool, true, false}
 use mathlib.Core.List.{List}
 use mathlib.Core.Path.{_≡_, refl, ap, sym, _∙_}
 use Prim.Native.Nat.{ℕ, _≤_, min}
 use native.Mathlib.Omega.{arith}
 use lib.ListN.{length}
 use borrow.Author.Tests.{le-ltb}
-use Rattle.bits.specs.Below.{digit}
 use Rattle.refusal.proofs.Numbers.{accepted-is}
 use Rattle.refusal.specs.Answers.{verdictIn, handed}
 use Rattle.refusal.specs.Numbers.{isAccepted}
 use Rattle.refusal.specs.declared.Refusal.the-variants.{NotSound}
-use Rattle.refusal.specs.declared.Verdict.{Verdict}
 use Rattle.refusal.specs.declared.Verdict.the-variants.{Accepted, Refused}
+use Rattle.event.proofs.Told.{read-as-written}
 use Rattle.event.specs.declared.Event.{Event}
-use Rattle.event.specs.declared.Event.the-variants.{Command, Data, Status, Read, Line, Enable, Fall, Rise}
 use Rattle.event.specs.declared.Listed.{Listed}
 use Rattle.event.specs.declared.Listed.the-variants.{Known}
 use Rattle.chain.specs.Events.{refused, judged, eventOf}
@@ -26,52 +24,41 @@ use Rattle.chain.specs.declared.Outcome.{Outcome}
 use Rattle.run.proofs.Before.{none-before, refused-before}
 use Rattle.run.proofs.Steps.{goes-on, stops, step-same}
 use Rattle.run.specs.List.{listedAt}
-use Rattle.run.specs.Run.{Report, listLength, beforeAny, listedOutcome, noted, stopped, runFrom, runOf}
+use Rattle.run.specs.Run.{listLength, beforeAny, listedOutcome, noted, runFrom, runOf}
 use Rattle.demands.specs.Runs.{inBytes, asTheCall}
 use Rattle.demands.proofs.Performed.{none-left}
 
--- the four bytes are read as the event
-listed-one : (e : Event) → listedAt (inBytes e) 0 ≡ Known e
+pub in-four-bytes : (e : Event) → listedAt (inBytes e) 0 ≡ Known e
 unfolding listedAt
-listed-one (Command chip code) = refl
-listed-one (Data chip byte) = refl
-listed-one (Status chip) = refl
-listed-one (Read chip) = refl
-listed-one (Line chip channel level) = refl
-listed-one (Enable level) = refl
-listed-one Fall = refl
-listed-one Rise = refl
+in-four-bytes e = read-as-written e
 
 -- a sound chain, and room: nothing refuses the run before its event
-none-refuses : (e : Event) (s : Chain) (results : List ℕ) → sound s ≡ true → 2 ≤ length results → beforeAny s (inBytes e) results ≡ Accepted
+none-refuses : (s : Chain) (bytes results : List ℕ) → sound s ≡ true → length bytes ≡ 4 → 2 ≤ length results → beforeAny s bytes results ≡ Accepted
 unfolding beforeAny
-none-refuses e s results is room = simp (is, le-ltb (length results) 2 room)
+none-refuses s bytes results is four room = simp (is, four, le-ltb (length results) 2 room)
 
 -- a chain that is not sound refuses both
-run-refused : (e : Event) (s : Chain) (results : List ℕ) → sound s ≡ false → beforeAny s (inBytes e) results ≡ Refused NotSound
+run-refused : (s : Chain) (bytes results : List ℕ) → sound s ≡ false → beforeAny s bytes results ≡ Refused NotSound
 unfolding beforeAny
-run-refused e s results is = simp is
+run-refused s bytes results is = simp is
 
 call-refused : (e : Event) (s : Chain) → sound s ≡ false → eventOf e s ≡ refused NotSound s
 unfolding eventOf verdictOf judged
 call-refused e s is = simp is
 
-pub one-event : (e : Event) (s : Chain) (limit : ℕ) (results : List ℕ) → 1 ≤ limit → 2 ≤ length results
-    → runOf s (inBytes e) limit results ≡ asTheCall (eventOf e s) results
+pub one-event : (e : Event) (s : Chain) (bytes : List ℕ) (limit : ℕ) (results : List ℕ) → length bytes ≡ 4 → listedAt bytes 0 ≡ Known e → 1 ≤ limit → 2 ≤ length results
+    → runOf s bytes limit results ≡ asTheCall (eventOf e s) results
 unfolding refused
-one-event e s limit results some room = by (sound s) refl
+one-event e s bytes limit results four listed some room = by (sound s) refl
   where
-    bytes : List ℕ
-    bytes = inBytes e
-
     o : Outcome
     o = eventOf e s
 
     is-listed : o ≡ listedOutcome (listedAt bytes 0) s
-    is-listed = ap (λ (l : Listed). listedOutcome l s) (sym (listed-one e))
+    is-listed = ap (λ (l : Listed). listedOutcome l s) (sym listed)
 
     one : min limit (listLength bytes) ≡ 1
-    one = omega (arith, some)
+    one = omega (arith, some, four)
 
     performed : (goes : Bool) → isAccepted (verdictIn (o .answer)) ≡ goes → runFrom 1 bytes 0 s results ≡ asTheCall o results
     performed true on =
@@ -84,9 +71,9 @@ one-event e s limit results some room = by (sound s) refl
 
     by : (is-sound : Bool) → sound s ≡ is-sound → runOf s bytes limit results ≡ asTheCall o results
     by true is =
-        none-before s bytes limit results Accepted (sym (none-refuses e s results is room)) refl
+        none-before s bytes limit results Accepted (sym (none-refuses s bytes results is four room)) refl
         ∙ ap (λ (left : ℕ). runFrom left bytes 0 s results) one
         ∙ performed (isAccepted (verdictIn (o .answer))) refl
     by false is =
-        refused-before s bytes limit results (Refused NotSound) (sym (run-refused e s results is)) refl
+        refused-before s bytes limit results (Refused NotSound) (sym (run-refused s bytes results is)) refl
         ∙ ap (λ (o : Outcome). asTheCall o results) (sym (call-refused e s is))

@@ -24,7 +24,7 @@ use Rattle.run.specs.Run.{Report, listLength, beforeAny, listedOutcome, stopped
 use Rattle.event.specs.declared.Listed.{Listed}
 use Rattle.event.specs.declared.Listed.the-variants.{Known, Unknown}
 use Rattle.demands.proofs.Kept.{no-event}
-use Rattle.demands.proofs.OneEvent.{one-event}
+use Rattle.demands.proofs.OneEvent.{in-four-bytes, one-event}
 use Rattle.demands.proofs.Performed.{performed}
 use Rattle.demands.specs.Runs.{Runs}
 
@@ -73,6 +73,7 @@ runs-keep =
           ap (λ (r : Report). r .ran .accepted) (before-any.none-before s bytes limit results (beforeAny s bytes results) refl h)
           ∙ counted bytes (min limit (listLength bytes)) s results;
       each-performed = performed;
+      in-four-bytes = in-four-bytes;
       one-event = one-event;
       number-counts = λ s bytes limit results h.
           whole (λ r. r .ran .chain .event ≡ (s .event + r .ran .accepted) % 65536) s bytes limit results _ refl

@@ -2,16 +2,17 @@
 -- reaches the chip with its in-service register empty) are defined in Wait, over the rules of the model.
 --
 -- It speaks of every sound chain, every list of events, refused ones included, every chip in the count and every channel.
-use mathlib.Core.Bool.{true}
+use mathlib.Core.Bool.{true, false}
 use mathlib.Core.List.{List}
 use mathlib.Core.Path.{_≡_}
 use Prim.Native.Nat.{ℕ, _≤_}
+use Rattle.chain.specs.Events.{eventOf}
 use Rattle.chain.specs.Fields.{chipAt}
 use Rattle.chain.specs.declared.Chain.{Chain}
 use Rattle.event.specs.declared.Event.{Event}
 use Rattle.demands.specs.Along.{after}
 use Rattle.demands.specs.Needed.{Needed}
-use Rattle.demands.specs.Wait.{waits, Waited, answersIt, others, isCounted, pulses}
+use Rattle.demands.specs.Wait.{waits, resets, Waited, answersIt, others, isCounted, pulses}
 use Rattle.demands.specs.Worked.{WorkedWait, BehindOthers, RefusedFalls}
 
 pub record Demand3 : Type 0 where
@@ -29,5 +30,7 @@ pub record Demand3 : Type 0 where
   pub behind-others : BehindOthers
   -- a refused fall is no first pulse, and no number of them ends a wait
   pub refused-falls : RefusedFalls
-  -- and no condition can be left out, but for one that another makes sure of
+  -- no condition of these bounds can be left out: for each a list of events that would break one of them
   pub needed : Needed
+  -- but for the one that no event resets the chip, which others make sure of: after a reset the chip is disarmed, so the request waits no longer
+  pub reset-ends : (e : Event) (s : Chain) (i channel : ℕ) → resets i e s ≡ true → waits (chipAt (eventOf e s .chain) i) channel ≡ false

@@ -1,33 +1,44 @@
--- Why each condition of the third demand stands there: left out, it would let a wait break the bound. Computed on lists of events, and one law.
-use mathlib.Core.Bool.{Bool, true, false, _&&_}
+-- Why each condition of the third demand stands there: for each a list of events that would break a bound if it were left out. All computed. The request is one on
+-- channel 7.
+use mathlib.Core.Bool.{Bool, false, not, _&&_}
 use mathlib.Core.List.{List, [], _∷_, _++_}
 use mathlib.Core.Path.{_≡_}
 use Prim.Native.Nat.{ℕ}
-use Rattle.refusal.specs.Numbers.{isAccepted}
-use Rattle.event.specs.Numbers.{isFall}
+use lib.ListN.{length}
+use Rattle.bits.specs.Byte.{bit, isWaiting}
 use Rattle.event.specs.declared.Event.{Event}
-use Rattle.event.specs.declared.Event.the-variants.{Command, Data, Enable}
-use Rattle.chain.specs.Events.{eventOf}
+use Rattle.event.specs.declared.Event.the-variants.{Command, Enable}
+use Rattle.chip.specs.Status.{isArmed, isPolled, isRotating}
+use Rattle.chip.specs.declared.Chip.{Chip}
 use Rattle.chain.specs.Fields.{chipAt}
-use Rattle.chain.specs.Refusals.{verdictOf}
+use Rattle.chain.specs.Seen.{selected}
 use Rattle.chain.specs.Start.{startOf}
 use Rattle.chain.specs.declared.Chain.{Chain}
 use Rattle.demands.specs.Along.{after, along}
-use Rattle.demands.specs.Wait.{waits, isFirstPulse, answersIt, resets, isWait, Waited, pulses}
-use Rattle.demands.specs.Worked.{ready, allPending, pulse, sevenPulses}
+use Rattle.demands.specs.Wait.{isPulse, isFirstPulse, isForAnother, answersIt, resets, isWait, Waited, earlierArmed, earlierSilent, reaches, isrEmpty, others, pulses}
+use Rattle.demands.specs.Worked.{ready, allPending, pulse, eightPulses}
 
-abbrev pub eightPulses : List Event
-eightPulses = pulse ++ sevenPulses
+-- A counted pulse, but for one condition: Enable In, earlier chips armed, earlier chips silent, nothing in service, a first pulse
+abbrev pub besidesEnable : ℕ → Event → Chain → Bool
+besidesEnable i e s = isFirstPulse e s && earlierArmed i s && earlierSilent i s && isrEmpty i s
 
--- a pulse, any pulse: an accepted fall
-abbrev pub isPulse : Event → Chain → Bool
-isPulse e s = isFall e && isAccepted (verdictOf e s)
+abbrev pub besidesArmed : ℕ → Event → Chain → Bool
+besidesArmed i e s = isFirstPulse e s && s .enable && earlierSilent i s && isrEmpty i s
 
--- Conditions on a counted pulse. A request waits through eight first pulses, of which the condition lets none count: without it there would be eight in a wait.
-pub record NoneCounts (s : Chain) (i channel : ℕ) (es : List Event) : Type 0 where
-  pub waits-through : Waited s i channel es
-  pub eight-first : along isFirstPulse s es ≡ 8
-  pub none-counted : pulses i s es ≡ 0
+abbrev pub besidesSilent : ℕ → Event → Chain → Bool
+besidesSilent i e s = isFirstPulse e s && s .enable && earlierArmed i s && isrEmpty i s
+
+abbrev pub besidesEmpty : ℕ → Event → Chain → Bool
+besidesEmpty i e s = isFirstPulse e s && reaches i s
+
+abbrev pub besidesFirst : ℕ → Event → Chain → Bool
+besidesFirst i e s = isPulse e s && s .enable && earlierArmed i s && earlierSilent i s && isrEmpty i s
+
+-- in a wait there are so many pulses with all conditions but one, and so many that count
+pub record WouldCount (but-for-one : ℕ → Event → Chain → Bool) (many counted : ℕ) (s : Chain) (i : ℕ) (es : List Event) : Type 0 where
+  pub waits-through : Waited s i 7 es
+  pub would-count : along (but-for-one i) s es ≡ many
+  pub do-count : pulses i s es ≡ counted
 
 -- the chain's Enable In is low: each pulse stalls
 unfoldable pub enableLow : Chain
@@ -51,7 +62,7 @@ inService =
     ++ pulse
     ++ (Command 0 0x5F ∷ []))
 
--- of four-byte responses the ISR bits are cleared after their first pulse: that is counted, and the other three are not
+-- three responses of four bytes, of which the ISR bit is cleared after the first pulse
 unfoldable pub fourBytes : Chain
 fourBytes = after (startOf 1 0x03 .chain) (ready 0)
 
@@ -61,16 +72,31 @@ fourPulses = pulse ++ (Command 0 0x70 ∷ []) ++ pulse ++ pulse ++ pulse
 abbrev pub threeResponses : List Event
 threeResponses = fourPulses ++ fourPulses ++ fourPulses
 
-pub record LaterPulses : Type 0 where
-  pub waits-through : Waited fourBytes 0 7 threeResponses
-  pub twelve-pulses : along isPulse fourBytes threeResponses ≡ 12
-  pub three-counted : pulses 0 fourBytes threeResponses ≡ 3
+-- A request that waits, but for one condition on it and its chip: armed, interrupt mode, rotating, unmasked, latched
+abbrev pub besidesArming : Chip → Bool
+besidesArming c = not (isPolled c) && isRotating c && isWaiting (c .irr) (c .imr) 7
 
--- Conditions on a wait. Eight counted pulses do not answer the request, and the condition makes it none that waits: without it there would be eight in a wait.
-pub record NoWait (s : Chain) (i channel : ℕ) (es : List Event) : Type 0 where
-  pub eight-counted : pulses i s es ≡ 8
-  pub not-answered : along (answersIt i channel) s es ≡ 0
-  pub no-wait : isWait i channel s es ≡ false
+abbrev pub besidesMode : Chip → Bool
+besidesMode c = isArmed c && isRotating c && isWaiting (c .irr) (c .imr) 7
+
+abbrev pub besidesRotating : Chip → Bool
+besidesRotating c = isArmed c && not (isPolled c) && isWaiting (c .irr) (c .imr) 7
+
+abbrev pub besidesUnmasked : Chip → Bool
+besidesUnmasked c = isArmed c && not (isPolled c) && isRotating c && bit (c .irr) 7
+
+abbrev pub besidesLatched : Chip → Bool
+besidesLatched c = isArmed c && not (isPolled c) && isRotating c && not (bit (c .imr) 7)
+
+-- a list that is no wait, although all conditions but one hold before each event, and none is a reset or an answer of the request; it has eight counted
+-- pulses, and so many answers for other channels
+pub record WouldWait (but-for-one : Chip → Bool) (s : Chain) (es : List Event) (answered : ℕ) : Type 0 where
+  -- a sound chain with such a chip and channel
+  pub there : Waited s 0 7 []
+  pub would-wait : along (λ e s. but-for-one (chipAt s 0) && not (resets 0 e s) && not (answersIt 0 7 e s)) s es ≡ length es
+  pub does-not : isWait 0 7 s es ≡ false
+  pub eight-counted : pulses 0 s es ≡ 8
+  pub others-answered : others 0 7 s es ≡ answered
 
 unfoldable pub disarmed : Chain
 disarmed = after allPending (Command 0 0xA2 ∷ [])
@@ -78,16 +104,8 @@ disarmed = after allPending (Command 0 0xA2 ∷ [])
 unfoldable pub polled : Chain
 polled = after allPending (Command 0 0x85 ∷ [])
 
--- in fixed priority channel 0 asks again after each pulse, and is answered before 7
 unfoldable pub fixedPriority : Chain
 fixedPriority = after allPending (Command 0 0x80 ∷ [])
-
-abbrev pub pulseAndAgain : List Event
-pulseAndAgain = pulse ++ (Command 0 0x58 ∷ [])
-
-abbrev pub eightAgain : List Event
-eightAgain =
-    pulseAndAgain ++ pulseAndAgain ++ pulseAndAgain ++ pulseAndAgain ++ pulseAndAgain ++ pulseAndAgain ++ pulseAndAgain ++ pulseAndAgain
 
 unfoldable pub masked : Chain
 masked = after allPending (Command 0 0x3F ∷ [])
@@ -95,19 +113,28 @@ masked = after allPending (Command 0 0x3F ∷ [])
 unfoldable pub notLatched : Chain
 notLatched = after allPending (Command 0 0x4F ∷ [])
 
+-- eight pulses, after each of which channel 0 asks again
+abbrev pub pulseAndAgain : List Event
+pulseAndAgain = pulse ++ (Command 0 0x58 ∷ [])
+
+abbrev pub eightAgain : List Event
+eightAgain =
+    pulseAndAgain ++ pulseAndAgain ++ pulseAndAgain ++ pulseAndAgain ++ pulseAndAgain ++ pulseAndAgain ++ pulseAndAgain ++ pulseAndAgain
+
 pub record Needed : Type 0 where
-  -- what makes a pulse count: Enable In is high, every earlier chip is armed and has no request to answer, the in-service register is empty, the pulse is a first one.
-  -- That no response is under way stands in a first pulse and in `reaches`; either would do, and without both the later pulses count
-  pub enable-in : NoneCounts enableLow 0 7 eightPulses
-  pub earlier-armed : NoneCounts behindDisarmed 1 7 eightPulses
-  pub earlier-silent : NoneCounts behindAsking 1 7 eightPulses
-  pub in-service-empty : NoneCounts inService 0 7 eightPulses
-  pub first-pulse : LaterPulses
-  -- what makes a request wait: an armed chip in interrupt mode and in rotating priority, and a request that is unmasked and latched
-  pub armed : NoWait disarmed 0 7 eightPulses
-  pub interrupt-mode : NoWait polled 0 7 eightPulses
-  pub rotating : NoWait fixedPriority 0 7 eightAgain
-  pub unmasked : NoWait masked 0 7 eightPulses
-  pub latched : NoWait notLatched 0 7 eightPulses
-  -- that no event resets the chip could be left out: after a reset it is disarmed, so the request waits no longer, and the reset itself is no pulse
-  pub reset-ends : (e : Event) (s : Chain) (i channel : ℕ) → resets i e s ≡ true → waits (chipAt (eventOf e s .chain) i) channel ≡ false
+  -- what makes a pulse count
+  pub enable-in : WouldCount besidesEnable 8 0 enableLow 0 eightPulses
+  pub earlier-armed : WouldCount besidesArmed 8 0 behindDisarmed 1 eightPulses
+  pub earlier-silent : WouldCount besidesSilent 8 0 behindAsking 1 eightPulses
+  pub isr-empty : WouldCount besidesEmpty 8 0 inService 0 eightPulses
+  -- that no response is under way: `reaches` could leave it out, since a first pulse has it; left out there too, all twelve pulses count
+  pub first-pulse : WouldCount besidesFirst 12 3 fourBytes 0 threeResponses
+  -- and a first pulse cannot leave it out: three acknowledges are answered for other channels, and not twelve
+  pub three-others : others 0 7 fourBytes threeResponses ≡ 3
+  pub not-twelve : along (λ e s. isPulse e s && isForAnother 0 7 (selected s)) fourBytes threeResponses ≡ 12
+  -- what makes a request wait. (A chip that is disarmed or polled answers nothing, so the bound on the others would hold without the first two)
+  pub armed : WouldWait besidesArming disarmed eightPulses 0
+  pub interrupt-mode : WouldWait besidesMode polled eightPulses 0
+  pub rotating : WouldWait besidesRotating fixedPriority eightAgain 8
+  pub unmasked : WouldWait besidesUnmasked masked eightAgain 8
+  pub latched : WouldWait besidesLatched notLatched eightAgain 8

@@ -11,6 +11,7 @@ use Rattle.refusal.specs.Answers.{verdictIn, handed}
 use Rattle.refusal.specs.declared.Answer.{Answer}
 use Rattle.event.specs.Numbers.{inNumbers}
 use Rattle.event.specs.declared.Event.{Event}
+use Rattle.event.specs.declared.Listed.the-variants.{Known}
 use Rattle.chain.specs.Events.{eventOf}
 use Rattle.chain.specs.Sound.{sound}
 use Rattle.chain.specs.declared.Chain.{Chain}
@@ -24,7 +25,7 @@ pub record Performed (bytes : List ℕ) (n : ℕ) (before next : Chain) (results
   pub drove : getD results (2 * n) 0 ≡ handed (listedOutcome (listedAt bytes n) before .answer) .drove
   pub byte : getD results (2 * n + 1) 0 ≡ handed (listedOutcome (listedAt bytes n) before .answer) .byte
 
--- the four bytes of an event
+-- four bytes of an event, 0 where it uses none
 abbrev pub inBytes : Event → List ℕ
 inBytes e = inNumbers e .kind ∷ inNumbers e .chip ∷ inNumbers e .channel ∷ inNumbers e .value ∷ []
 
@@ -41,9 +42,11 @@ pub record Runs : Type 0 where
   -- each of them is performed on the chain that those before it leave: the chain of the run that is limited to them
   pub each-performed : (s : Chain) (bytes : List ℕ) (limit : ℕ) (results : List ℕ) (n : ℕ) → n < runOf s bytes limit results .ran .accepted
       → Performed bytes n (runOf s bytes n results .ran .chain) (runOf s bytes (n + 1) results .ran .chain) (runOf s bytes limit results .results)
-  -- a run of one event, with room for its two bytes, does what the event's own call does: the two ways in cannot part
-  pub one-event : (e : Event) (s : Chain) (limit : ℕ) (results : List ℕ) → 1 ≤ limit → 2 ≤ length results
-      → runOf s (inBytes e) limit results ≡ asTheCall (eventOf e s) results
+  -- every event has its four bytes; and a run of one event, whatever stands in the bytes that it does not use, with room for its two results, does what the
+  -- event's own call does: the two ways in cannot part
+  pub in-four-bytes : (e : Event) → listedAt (inBytes e) 0 ≡ Known e
+  pub one-event : (e : Event) (s : Chain) (bytes : List ℕ) (limit : ℕ) (results : List ℕ) → length bytes ≡ 4 → listedAt bytes 0 ≡ Known e → 1 ≤ limit → 2 ≤ length results
+      → runOf s bytes limit results ≡ asTheCall (eventOf e s) results
   -- the event number is the number before plus the accepted events, modulo 65,536
   pub number-counts : (s : Chain) (bytes : List ℕ) (limit : ℕ) (results : List ℕ) → s .event < 65536
       → runOf s bytes limit results .ran .chain .event ≡ (s .event + runOf s bytes limit results .ran .accepted) % 65536

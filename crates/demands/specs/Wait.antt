@@ -27,9 +27,13 @@ use Rattle.demands.specs.Along.{along}
 abbrev pub waits : Chip → ℕ → Bool
 waits c channel = isArmed c && not (isPolled c) && isRotating c && isWaiting (c .irr) (c .imr) channel
 
--- a first pulse: an accepted fall without a response under way. A refused fall is no pulse
+-- a pulse: an accepted fall. A refused fall is none
+abbrev pub isPulse : Event → Chain → Bool
+isPulse e s = isFall e && isAccepted (verdictOf e s)
+
+-- a first pulse: one without a response under way
 abbrev pub isFirstPulse : Event → Chain → Bool
-isFirstPulse e s = isFall e && isAccepted (verdictOf e s) && isIdle (s .response)
+isFirstPulse e s = isPulse e s && isIdle (s .response)
 
 -- the response is chip i's for the channel; or chip i's for another one
 abbrev pub isFor : ℕ → ℕ → Response → Bool
@@ -68,16 +72,26 @@ pub record Waited (s : Chain) (i channel : ℕ) (es : List Event) : Type 0 where
   pub a-channel : channel < 8
   pub waits-through : isWait i channel s es ≡ true
 
--- a first pulse that falls now reaches chip i: no response is under way, the chain's Enable In is high, every earlier chip is armed, and no
--- earlier chip in interrupt mode has a request that it would answer: a candidate with M2 clear, which is what makes GINT active
+-- every chip before chip i is armed
+abbrev pub earlierArmed : ℕ → Chain → Bool
+earlierArmed i s = every i (λ j. isArmed (chipAt s j))
+
+-- and none of them in interrupt mode has a request that it would answer: a candidate with M2 clear, which is what makes GINT active
+abbrev pub earlierSilent : ℕ → Chain → Bool
+earlierSilent i s = every i (λ j. not (gintActive (chipAt s j)))
+
+-- a first pulse that falls now reaches chip i: no response is under way, the chain's Enable In is high, every earlier chip is armed, and none
+-- would answer
 unfoldable pub reaches : ℕ → Chain → Bool
-reaches i s =
-    isIdle (s .response) && s .enable && every i (λ j. isArmed (chipAt s j))
-    && every i (λ j. not (gintActive (chipAt s j)))
+reaches i s = isIdle (s .response) && s .enable && earlierArmed i s && earlierSilent i s
+
+-- nothing is in service on chip i
+abbrev pub isrEmpty : ℕ → Chain → Bool
+isrEmpty i s = eqb (chipAt s i .isr) 0
 
 -- a first pulse that reaches chip i with its in-service register empty
 unfoldable pub isCounted : ℕ → Event → Chain → Bool
-isCounted i e s = isFirstPulse e s && reaches i s && eqb (chipAt s i .isr) 0
+isCounted i e s = isFirstPulse e s && reaches i s && isrEmpty i s
 
 -- the acknowledges that chip i answers for its other channels, and the first pulses that reach it with ISR empty
 abbrev pub others : ℕ → ℕ → Chain → List Event → ℕ

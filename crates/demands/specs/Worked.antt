@@ -25,6 +25,9 @@ pulse = Fall ∷ Rise ∷ []
 abbrev pub sevenPulses : List Event
 sevenPulses = pulse ++ pulse ++ pulse ++ pulse ++ pulse ++ pulse ++ pulse
 
+abbrev pub eightPulses : List Event
+eightPulses = pulse ++ sevenPulses
+
 -- channel 7 waits through seven pulses, which answer 0 to 6 and all count; the eighth counts too, and answers it
 pub record WorkedWait : Type 0 where
   pub waits-through : Waited allPending 0 7 sevenPulses
@@ -45,12 +48,12 @@ thirdOfThree =
 -- the first pulse does not reach the third chip; then it goes as with one chip alone
 pub record BehindOthers : Type 0 where
   pub not-reached : reaches 2 thirdOfThree ≡ false
-  pub waits-through : Waited thirdOfThree 2 7 (pulse ++ sevenPulses)
-  pub seven-others : others 2 7 thirdOfThree (pulse ++ sevenPulses) ≡ 7
-  pub seven-counted : pulses 2 thirdOfThree (pulse ++ sevenPulses) ≡ 7
-  pub still-waits : waits (chipAt (after thirdOfThree (pulse ++ sevenPulses)) 2) 7 ≡ true
-  pub eighth-counted : isCounted 2 Fall (after thirdOfThree (pulse ++ sevenPulses)) ≡ true
-  pub eighth-answers : answersIt 2 7 Fall (after thirdOfThree (pulse ++ sevenPulses)) ≡ true
+  pub waits-through : Waited thirdOfThree 2 7 eightPulses
+  pub seven-others : others 2 7 thirdOfThree eightPulses ≡ 7
+  pub seven-counted : pulses 2 thirdOfThree eightPulses ≡ 7
+  pub still-waits : waits (chipAt (after thirdOfThree eightPulses) 2) 7 ≡ true
+  pub eighth-counted : isCounted 2 Fall (after thirdOfThree eightPulses) ≡ true
+  pub eighth-answers : answersIt 2 7 Fall (after thirdOfThree eightPulses) ≡ true
 
 -- Enable In was low when IACK fell, and is high again: the pulse has stalled, and IACK is low still
 unfoldable pub stalled : Chain
