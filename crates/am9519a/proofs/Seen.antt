@@ -36,6 +36,12 @@ abbrev pub viewCheck : ℕ → List ℕ → ℕ → List ℕ → Verdict
 viewCheck n image chip view =
     firstOf (notAnImage image ∷ notSound (chainIn image) ∷ noSuchChip (chainIn image .count) chip ∷ shortBuffer n view ∷ [])
 
+-- what a call passes on, made of what its parts hand back, is what the model's view has
+pub passed-on : {A : Type 0} (of : Chain → A) (verdict : A → Verdict) (bytes : A → List ℕ) (image view : List ℕ) (s : Chain) (seen : A) (shown : List ℕ) →
+    s ≡ chainOf image → seen ≡ of s → shown ≡ bytes seen → viewed (verdict seen) shown view ≡ viewed (verdict (of (chainOf image))) (bytes (of (chainOf image))) view
+passed-on of verdict bytes image view s seen shown chain is put =
+    ap (λ shown. viewed (verdict seen) shown view) put ∙ ap (λ seen. viewed (verdict seen) (bytes seen) view) (is ∙ ap of chain)
+
 -- of an image the view's own verdict comes first, then the room for its bytes; `none` is what a refused view has in the place of what it shows
 of-image : {A : Type 0} (bytes : A → List ℕ) (shown none : A) (n : ℕ) (image : List ℕ) (chip : ℕ) (view : List ℕ) →
     length (bytes shown) ≡ n → isImage image ≡ true →

@@ -18,7 +18,7 @@ needed =
       isr-empty = record { waits-through = waited refl refl refl refl; would-count = refl; do-count = refl };
       first-pulse = record { waits-through = waited refl refl refl refl; would-count = refl; do-count = refl };
       three-others = refl;
-      not-twelve = refl;
+      else-twelve = refl;
       armed = record { there = waited refl refl refl refl; would-wait = refl; does-not = refl; eight-counted = refl; others-answered = refl };
       interrupt-mode = record { there = waited refl refl refl refl; would-wait = refl; does-not = refl; eight-counted = refl; others-answered = refl };
       rotating = record { there = waited refl refl refl refl; would-wait = refl; does-not = refl; eight-counted = refl; others-answered = refl };

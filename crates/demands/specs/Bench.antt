@@ -51,9 +51,9 @@ unfoldable pub all : List Step → Chain → Bool
 all [] s = true
 all (step ∷ steps) s = goes step s && all steps (afterStep step s)
 
--- the list on a chain of so many chips with this fill
+-- the start of so many chips with this fill is accepted, and the list goes on its chain
 abbrev pub onBench : ℕ → ℕ → List Step → Bool
-onBench count fill steps = all steps (startOf count fill .chain)
+onBench count fill steps = hands (handed (startOf count fill .answer)) 0 0 0 && all steps (startOf count fill .chain)
 
 -- a field of the picture of chip i, and one of its table
 abbrev pub pinOf : (Pins → ℕ) → ℕ → Chain → Field

@@ -129,9 +129,9 @@ pub record Needed : Type 0 where
   pub isr-empty : WouldCount besidesEmpty 8 0 inService 0 eightPulses
   -- that no response is under way: `reaches` could leave it out, since a first pulse has it; left out there too, all twelve pulses count
   pub first-pulse : WouldCount besidesFirst 12 3 fourBytes 0 threeResponses
-  -- and a first pulse cannot leave it out: three acknowledges are answered for other channels, and not twelve
+  -- and a first pulse cannot leave it out: three acknowledges are answered for other channels, else they would be twelve
   pub three-others : others 0 7 fourBytes threeResponses ≡ 3
-  pub not-twelve : along (λ e s. isPulse e s && isForAnother 0 7 (selected s)) fourBytes threeResponses ≡ 12
+  pub else-twelve : along (λ e s. isPulse e s && isForAnother 0 7 (selected s)) fourBytes threeResponses ≡ 12
   -- what makes a request wait. (A chip that is disarmed or polled answers nothing, so the bound on the others would hold without the first two)
   pub armed : WouldWait besidesArming disarmed eightPulses 0
   pub interrupt-mode : WouldWait besidesMode polled eightPulses 0

@@ -2,8 +2,9 @@
 -- Assumes nothing.
 use mathlib.Core.Path.{ap, _∙_}
 use Rattle.views.specs.Views.{pinView}
-use Rattle.am9519a.specs.Calls.{pictureBytes, viewed, pinsCall}
+use Rattle.am9519a.specs.Calls.{pictureBytes, pinsCall}
 use borrow.Author.Needs.{needs}
+use Rattle.am9519a.proofs.Seen.{passed-on}
 use Rattle.am9519a.proofs.am9519a_pins.Statement.{statement}
 use Rattle.am9519a.proofs.am9519a_pins.Tie as tie
 
@@ -29,8 +30,8 @@ returns : tie.Need-returns
 unfolding pinsCall
 returns c =
     let told =
-    ap (λ bytes. viewed (c .before .before .before .before .before .before .before .pin-view .result .verdict) bytes (c .before .before .before .before .before .before .before .before .before .before .before .args .view .now)) (c .before .before .before .before .before .picture-bytes .ensures)
-    ∙ ap (λ seen. viewed (seen .verdict) (pictureBytes (seen .picture)) (c .before .before .before .before .before .before .before .before .before .before .before .args .view .now)) (c .before .before .before .before .before .before .before .pin-view .ensures ∙ ap (pinView (c .before .before .before .before .before .before .before .before .before .before .before .args .chip)) (c .before .before .before .before .before .before .before .before .chain-of .ensures)) in
+    passed-on (pinView (c .before .before .before .before .before .before .before .before .before .before .before .args .chip)) (λ seen. seen .verdict) (λ seen. pictureBytes (seen .picture)) (c .before .before .before .before .before .before .before .before .before .before .before .args .image .now) (c .before .before .before .before .before .before .before .before .before .before .before .args .view .now) _ _ _
+    (c .before .before .before .before .before .before .before .before .chain-of .ensures) (c .before .before .before .before .before .before .before .pin-view .ensures) (c .before .before .before .before .before .picture-bytes .ensures) in
     (c .before .before .put-view .ensures .0 ∙ ap (λ r. r .number) told, c .before .before .put-view .ensures .1 ∙ ap (λ r. r .buffer) told)
 
 pub am9519a-pins-spec : {M : Type 1} → statement M

@@ -2,8 +2,9 @@
 -- Assumes nothing.
 use mathlib.Core.Path.{ap, _∙_}
 use Rattle.views.specs.Views.{registerView}
-use Rattle.am9519a.specs.Calls.{tableBytes, viewed, registersCall}
+use Rattle.am9519a.specs.Calls.{tableBytes, registersCall}
 use borrow.Author.Needs.{needs}
+use Rattle.am9519a.proofs.Seen.{passed-on}
 use Rattle.am9519a.proofs.am9519a_registers.Statement.{statement}
 use Rattle.am9519a.proofs.am9519a_registers.Tie as tie
 
@@ -29,8 +30,8 @@ returns : tie.Need-returns
 unfolding registersCall
 returns c =
     let told =
-    ap (λ bytes. viewed (c .before .before .before .before .before .before .before .register-view .result .verdict) bytes (c .before .before .before .before .before .before .before .before .before .before .before .args .view .now)) (c .before .before .before .before .before .table-bytes .ensures)
-    ∙ ap (λ seen. viewed (seen .verdict) (tableBytes (seen .table)) (c .before .before .before .before .before .before .before .before .before .before .before .args .view .now)) (c .before .before .before .before .before .before .before .register-view .ensures ∙ ap (registerView (c .before .before .before .before .before .before .before .before .before .before .before .args .chip)) (c .before .before .before .before .before .before .before .before .chain-of .ensures)) in
+    passed-on (registerView (c .before .before .before .before .before .before .before .before .before .before .before .args .chip)) (λ seen. seen .verdict) (λ seen. tableBytes (seen .table)) (c .before .before .before .before .before .before .before .before .before .before .before .args .image .now) (c .before .before .before .before .before .before .before .before .before .before .before .args .view .now) _ _ _
+    (c .before .before .before .before .before .before .before .before .chain-of .ensures) (c .before .before .before .before .before .before .before .register-view .ensures) (c .before .before .before .before .before .table-bytes .ensures) in
     (c .before .before .put-view .ensures .0 ∙ ap (λ r. r .number) told, c .before .before .put-view .ensures .1 ∙ ap (λ r. r .buffer) told)
 
 pub am9519a-registers-spec : {M : Type 1} → statement M
