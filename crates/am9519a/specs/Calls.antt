@@ -1,4 +1,4 @@
--- The C calls over a chain image: the number that each hands back, and what the lent buffers hold afterwards.
+-- The C calls over a chain image, and that for the sentence of a number: the number that each hands back, and what the lent buffers hold afterwards.
 -- A call is the model's call between reading the image and writing it. A refused call leaves every buffer as it was.
 use mathlib.Core.Bool.{cond}
 use mathlib.Core.List.{List, [], _∷_}
@@ -7,6 +7,7 @@ use lib.Dec.{eqb, ltb}
 use lib.ListN.{length}
 use Rattle.refusal.specs.Answers.{verdictIn}
 use Rattle.refusal.specs.Numbers.{verdictNumber, isAccepted}
+use Rattle.refusal.specs.Sentences.{meaningOf}
 use Rattle.refusal.specs.declared.Refusal.the-variants.{NotSound, ShortResults}
 use Rattle.refusal.specs.declared.Verdict.{Verdict}
 use Rattle.refusal.specs.declared.Verdict.the-variants.{Accepted, Refused}
@@ -21,6 +22,7 @@ use Rattle.views.specs.declared.Registers.{Registers}
 use Rattle.run.specs.Run.{Report, beforeAny, runOf}
 use Rattle.image.specs.Layout.{imageOf, over}
 use Rattle.image.specs.Reading.{chainIn, isImage}
+use Rattle.text.specs.Written.{written}
 
 -- the chain in an image; what is no image, of another length than 528 or not of the form, is refused as a chain that is not sound
 abbrev pub chainOf : List ℕ → Chain
@@ -72,6 +74,10 @@ unfoldable pub pinsCall : List ℕ → ℕ → List ℕ → Called
 pinsCall image chip view =
     let seen : PinView = pinView chip (chainOf image) in
     viewed (seen .verdict) (pictureBytes (seen .picture)) view
+
+-- meaning: how long the sentence of a number is; the text gets the sentence, as far as it has room
+unfoldable pub meaningCall : ℕ → List ℕ → Called
+meaningCall number text = record { number = length (meaningOf number); buffer = written (text, 0) (meaningOf number) .0 }
 
 -- a run's number, and the image, the results and the accepted count afterwards
 pub record RunCalled : Type 0 where

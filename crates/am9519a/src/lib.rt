@@ -4,13 +4,15 @@ mod shown;
 
 ghost use mathlib.Core.Path.{_≡_};
 ghost use Rattle.search.specs.Candidate.{searchNumber};
-ghost use Rattle.am9519a.specs.Calls.{startCall, runLeft, runCall, registersCall, pinsCall};
+ghost use Rattle.am9519a.specs.Calls.{startCall, runLeft, runCall, registersCall, pinsCall, meaningCall};
 use crate::shown::chain_of;
 use crate::shown::picture_bytes;
 use crate::shown::put_view;
 use crate::shown::table_bytes;
 use chain::Chain;
 use image::writing::put_chain;
+use refusal::sentences::meaning_length;
+use refusal::sentences::put_meaning;
 use run::on_image::run_in;
 use views::pin_view;
 use views::register_view;
@@ -91,4 +93,14 @@ pub extern "C" fn am9519a_pins(image: &[u8], chip: u8, view: &mut [u8]) -> u8
     let picture = seen.picture;
     let bytes = picture_bytes(picture);
     put_view(view, verdict, &bytes)
+}
+
+// What a number says to people, as far as there is room for it. Hands back how long all of it is.
+#[no_mangle]
+pub extern "C" fn am9519a_meaning(number: u8, text: &mut [u8]) -> usize
+    ensures { λ r. ⌜ r ≡ meaningCall number (now (text .entry)) .number ⌝ }
+    ensures { λ _. ⌜ now (text .exit) ≡ meaningCall number (now (text .entry)) .buffer ⌝ }
+{
+    put_meaning(text, 0, number);
+    meaning_length(number)
 }

@@ -38,7 +38,7 @@ use Rattle.am9519a.proofs.Told as told
 use Rattle.am9519a.specs.Calls.{Called, RunCalled, called, chainOf, tableBytes, pictureBytes, startCall, runLeft, runCall, registersCall, pinsCall}
 use Rattle.demands.specs.Agree.{Agree}
 use Rattle.demands.specs.FromC.{isBeforeAny, noImage, viewEntries, Left, FromC, BytesAgree, AsTheModel}
-use Rattle.event.specs.Numbers.{Numbered}
+use Rattle.event.specs.declared.Numbered.{Numbered}
 use Rattle.demands.specs.Table.{Entry, given, runEntries, listedEntries, lastEntries, fourBytes}
 use Rattle.demands.proofs.Agree.{one-state}
 use Rattle.demands.proofs.Rules.{by-the-rules}

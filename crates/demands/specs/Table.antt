@@ -18,7 +18,8 @@ use Rattle.chain.specs.Sound.{sound}
 use Rattle.chain.specs.Start.{startOf}
 use Rattle.chain.specs.declared.Chain.{Chain}
 use Rattle.event.specs.declared.Event.{Event}
-use Rattle.event.specs.Numbers.{Numbered, numbered, inNumbers}
+use Rattle.event.specs.Numbers.{numbered, inNumbers}
+use Rattle.event.specs.declared.Numbered.{Numbered}
 use Rattle.run.specs.Run.{Report, runOf}
 
 -- an entry of the table: a number, and whether its case applies

@@ -6,6 +6,7 @@ use Rattle.event.specs.declared.Event.{Event}
 use Rattle.event.specs.declared.Event.the-variants.{Command, Data, Status, Read, Line, Enable, Fall, Rise}
 use Rattle.event.specs.declared.Listed.{Listed}
 use Rattle.event.specs.declared.Listed.the-variants.{Known, Unknown}
+use Rattle.event.specs.declared.Numbered.{Numbered}
 
 -- what four numbers are
 abbrev pub listed : ℕ → ℕ → ℕ → ℕ → Listed
@@ -21,12 +22,6 @@ listed kind chip channel value =
     Unknown)))))))
 
 -- four numbers
-pub record Numbered : Type 0 where
-  pub kind : ℕ
-  pub chip : ℕ
-  pub channel : ℕ
-  pub value : ℕ
-
 abbrev pub numbered : ℕ → ℕ → ℕ → ℕ → Numbered
 numbered kind chip channel value = record { kind = kind; chip = chip; channel = channel; value = value }
 

@@ -2,7 +2,7 @@
 // The one crate that lists all of them beside what each does (`decide`) and what each is called (`steps`).
 ghost use mathlib.Core.Path.{_≡_};
 ghost use Rattle.event.specs.Counting.{nextNumber};
-ghost use Rattle.event.specs.Numbers.{listed};
+ghost use Rattle.event.specs.Numbers.{listed, inNumbers};
 
 // The eight events, in the order of their kinds 1 to 8.
 pub enum Event {
@@ -23,6 +23,72 @@ pub enum Event {
 pub enum Listed {
     Known(Event),
     Unknown,
+}
+
+// Four numbers.
+pub struct Numbered {
+    pub kind: u8,
+    pub chip: u8,
+    pub channel: u8,
+    pub value: u8,
+}
+
+impl Event {
+    // The four numbers of an event; what its kind does not use is 0.
+    pub fn numbers(self) -> Numbered
+        ensures { λ r. ⌜ r ≡ inNumbers self ⌝ }
+    {
+        match self {
+            Event::Command(chip, code) => Numbered {
+                kind: 1,
+                chip: chip,
+                channel: 0,
+                value: code,
+            },
+            Event::Data(chip, byte) => Numbered {
+                kind: 2,
+                chip: chip,
+                channel: 0,
+                value: byte,
+            },
+            Event::Status(chip) => Numbered {
+                kind: 3,
+                chip: chip,
+                channel: 0,
+                value: 0,
+            },
+            Event::Read(chip) => Numbered {
+                kind: 4,
+                chip: chip,
+                channel: 0,
+                value: 0,
+            },
+            Event::Line(chip, channel, level) => Numbered {
+                kind: 5,
+                chip: chip,
+                channel: channel,
+                value: level,
+            },
+            Event::Enable(level) => Numbered {
+                kind: 6,
+                chip: 0,
+                channel: 0,
+                value: level,
+            },
+            Event::Fall => Numbered {
+                kind: 7,
+                chip: 0,
+                channel: 0,
+                value: 0,
+            },
+            Event::Rise => Numbered {
+                kind: 8,
+                chip: 0,
+                channel: 0,
+                value: 0,
+            },
+        }
+    }
 }
 
 impl Listed {

@@ -1,23 +1,32 @@
--- What is said where a list ends before its last line: a refusal, or what should have stood there.
+-- What is said where a list ends before its last line: a refusal, or what stood there and what should have.
+use mathlib.Core.Bool.{Bool, cond, not, _&&_, _||_}
 use mathlib.Core.List.{List, [], _∷_, _++_}
 use Prim.Native.Nat.{ℕ}
+use lib.Dec.{eqb}
+use lib.ListN.{length, take}
+use Rattle.event.specs.declared.Numbered.{Numbered}
 use Rattle.refusal.specs.Numbers.{refusalNumber}
+use Rattle.refusal.specs.Sentences.{meaningOf}
 use Rattle.refusal.specs.declared.Refusal.{Refusal}
-use Rattle.steps.specs.Kinds.{nameOf, formOf, argumentNumber}
+use Rattle.steps.specs.Kinds.{nameOf, inCapitals, formOf, argumentNumber}
+use Rattle.steps.specs.Spelled.{spelled}
 use Rattle.steps.specs.declared.Argument.{Argument}
 use Rattle.steps.specs.declared.Expected.{Expected}
 use Rattle.steps.specs.declared.Expected.the-variants.{Shorter, TheStart, AnEvent, Wanted}
 use Rattle.steps.specs.declared.Form.{Form}
+use Rattle.text.specs.Cast.{cast}
 use Rattle.text.specs.Tables.{lineIn}
+use Rattle.text.specs.Words.{begins}
 use Rattle.text.specs.Written.{text, joined, field}
+use Rattle.text.specs.declared.Way.the-variants.{Shown}
 
--- line L KIND refused R
-abbrev pub refusedParts : ℕ → ℕ → ℕ → List (List ℕ)
-refusedParts line kind number =
-    field "line " line ∷ text " " ∷ nameOf kind ∷ field " refused " number ∷ text "\n" ∷ []
+-- at L STEP refused R: and what the number says
+abbrev pub refusedParts : ℕ → Numbered → ℕ → List (List ℕ)
+refusedParts line step number =
+    field "at " line ∷ text " " ∷ spelled step ∷ field " refused " number ∷ text ": " ∷ meaningOf number ∷ text "\n" ∷ []
 
-unfoldable pub refusedLine : ℕ → ℕ → Refusal → List ℕ
-refusedLine line kind why = joined (refusedParts line kind (refusalNumber why))
+unfoldable pub refusedLine : ℕ → Numbered → Refusal → List ℕ
+refusedLine line step why = joined (refusedParts line step (refusalNumber why))
 
 -- the arguments' names, each in the line of its number; what a step does not take has none
 abbrev pub slots : List ℕ
@@ -64,9 +73,43 @@ expectedParts AnEvent =
     text "expected an event: command, data, status, read, line, enable, fall or rise (start stands first and only there)" ∷ []
 expectedParts (Wanted kind argument) = wantedParts kind argument
 
--- line L malformed: and what was expected
-abbrev pub malformedParts : ℕ → Expected → List (List ℕ)
-malformedParts line expected = field "line " line ∷ text " malformed: " ∷ joined (expectedParts expected) ∷ text "\n" ∷ []
+-- the word that was found: at most 40 bytes of it, as they can be shown; where there is none, that
+abbrev pub foundText : List ℕ → List ℕ
+foundText found = cond (eqb (length found) 0) (text "(no word)") (cast Shown (take 40 found))
 
-unfoldable pub malformedLine : ℕ → Expected → List ℕ
-malformedLine line expected = joined (malformedParts line expected)
+-- what may help: a byte order mark (EF BB BF, or FF FE or FE FF) or capitals where a name should be, 0x where a number should be
+abbrev pub hasMark : List ℕ → Bool
+hasMark found = begins (0xEF ∷ 0xBB ∷ 0xBF ∷ []) found || begins (0xFF ∷ 0xFE ∷ []) found || begins (0xFE ∷ 0xFF ∷ []) found
+
+abbrev pub has0x : List ℕ → Bool
+has0x found = begins (text "0x") found || begins (text "0X") found
+
+abbrev pub nameHint : List ℕ → List ℕ
+nameHint found =
+    cond (hasMark found) (text "; a byte order mark stands before it: save the list as plain text, without one")
+    (cond (inCapitals found) (text "; names are written in small letters")
+    [])
+
+abbrev pub numberHint : Argument → List ℕ → List ℕ
+numberHint argument found = cond (not (eqb (argumentNumber argument) 7) && has0x found) (text "; write the digits alone, without 0x") []
+
+abbrev pub hint : Expected → List ℕ → List ℕ
+hint Shorter found = []
+hint TheStart found = nameHint found
+hint AnEvent found = nameHint found
+hint (Wanted kind argument) found = numberHint argument found
+
+-- at L malformed: the word that was found there, and what was expected
+abbrev pub malformedParts : ℕ → Expected → List ℕ → List (List ℕ)
+malformedParts line expected found =
+    field "at " line
+    ∷ text " malformed: "
+    ∷ foundText found
+    ∷ text ", "
+    ∷ joined (expectedParts expected)
+    ∷ hint expected found
+    ∷ text "\n"
+    ∷ []
+
+unfoldable pub malformedLine : ℕ → Expected → List ℕ → List ℕ
+malformedLine line expected found = joined (malformedParts line expected found)

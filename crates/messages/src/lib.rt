@@ -1,16 +1,24 @@
-// What ends a report before the list's end: a refusal, or what should have stood in a line.
+// What ends a report before the list's end: a refusal, or what stood in a line and what should have.
 ghost use mathlib.Core.Path.{_≡_};
-ghost use Rattle.messages.specs.Messages.{refusedLine, slot, help, formParts, wantedParts, expectedParts, malformedLine};
+ghost use Rattle.messages.specs.Messages.{refusedLine, slot, help, formParts, wantedParts, expectedParts, foundText, hasMark, has0x, nameHint, numberHint, hint, malformedLine};
 ghost use Rattle.steps.specs.Kinds.{formOf};
 ghost use Rattle.text.specs.Written.{joined, written};
+use event::Numbered;
 use refusal::Refusal;
+use refusal::sentences::put_meaning;
 use steps::Argument;
 use steps::Expected;
 use steps::kinds::form_of;
+use steps::kinds::in_capitals;
 use steps::kinds::put_name;
+use steps::spelled::put_step;
+use text::Way;
+use text::cast::put_cast;
 use text::put::put;
 use text::put::put_field;
 use text::tables::put_line;
+use text::words::begins;
+use text::words::first;
 
 // The arguments' names, each in the line of its number.
 const SLOTS: [u8; 47] = *b" COUNT\n FILL\n CHIP\n CODE\n BYTE\n CHANNEL\n LEVEL\n";
@@ -26,26 +34,94 @@ const HELPS: [u8; 318] = *b"\
     \x20(a level, 0 or 1)\n\
     \x20the end of the line, or a comment with #";
 
-// line L KIND refused R
-pub fn put_refused(to: &mut [u8], at: usize, line: u64, kind: u8, why: Refusal) -> usize
-    ensures { λ r. ⌜ (now (to .exit), r) ≡ written (now (to .entry), at) (refusedLine line kind why) ⌝ }
+// at L STEP refused R: and what the number says.
+pub fn put_refused(to: &mut [u8], at: usize, line: u64, step: Numbered, why: Refusal) -> usize
+    ensures { λ r. ⌜ (now (to .exit), r) ≡ written (now (to .entry), at) (refusedLine line step why) ⌝ }
 {
     let number = why.number();
-    let next = put_field(to, at, b"line ", line);
+    let next = put_field(to, at, b"at ", line);
     let next = put(to, next, b" ");
-    let next = put_name(to, next, kind);
+    let next = put_step(to, next, step);
     let next = put_field(to, next, b" refused ", number as u64);
+    let next = put(to, next, b": ");
+    let next = put_meaning(to, next, number);
     put(to, next, b"\n")
 }
 
-// line L malformed: and what was expected there.
-pub fn put_malformed(to: &mut [u8], at: usize, line: u64, expected: Expected) -> usize
-    ensures { λ r. ⌜ (now (to .exit), r) ≡ written (now (to .entry), at) (malformedLine line expected) ⌝ }
+// at L malformed: the word that was found there, and what was expected.
+pub fn put_malformed(to: &mut [u8], at: usize, line: u64, expected: Expected, found: &[u8]) -> usize
+    ensures { λ r. ⌜ (now (to .exit), r) ≡ written (now (to .entry), at) (malformedLine line expected (now (found .entry))) ⌝ }
 {
-    let next = put_field(to, at, b"line ", line);
+    let next = put_field(to, at, b"at ", line);
     let next = put(to, next, b" malformed: ");
+    let next = put_found(to, next, found);
+    let next = put(to, next, b", ");
     let next = put_expected(to, next, expected);
+    let next = put_hint(to, next, expected, found);
     put(to, next, b"\n")
+}
+
+// The word that was found: at most 40 bytes of it, as they can be shown.
+fn put_found(to: &mut [u8], at: usize, found: &[u8]) -> usize
+    ensures { λ r. ⌜ (now (to .exit), r) ≡ written (now (to .entry), at) (foundText (now (found .entry))) ⌝ }
+{
+    if found.len() == 0 {
+        put(to, at, b"(no word)")
+    } else {
+        put_cast(to, at, first(found, 40), Way::Shown)
+    }
+}
+
+// What may help.
+fn put_hint(to: &mut [u8], at: usize, expected: Expected, found: &[u8]) -> usize
+    ensures { λ r. ⌜ (now (to .exit), r) ≡ written (now (to .entry), at) (hint expected (now (found .entry))) ⌝ }
+{
+    match expected {
+        Expected::Shorter => at,
+        Expected::TheStart => put_name_hint(to, at, found),
+        Expected::AnEvent => put_name_hint(to, at, found),
+        Expected::Wanted(_, argument) => put_number_hint(to, at, argument, found),
+    }
+}
+
+fn put_name_hint(to: &mut [u8], at: usize, found: &[u8]) -> usize
+    ensures { λ r. ⌜ (now (to .exit), r) ≡ written (now (to .entry), at) (nameHint (now (found .entry))) ⌝ }
+{
+    if has_mark(found) {
+        put(
+            to,
+            at,
+            b"; a byte order mark stands before it: save the list as plain text, without one",
+        )
+    } else if in_capitals(found) {
+        put(to, at, b"; names are written in small letters")
+    } else {
+        at
+    }
+}
+
+fn put_number_hint(to: &mut [u8], at: usize, argument: Argument, found: &[u8]) -> usize
+    ensures { λ r. ⌜ (now (to .exit), r) ≡ written (now (to .entry), at) (numberHint argument (now (found .entry))) ⌝ }
+{
+    if (argument.number() != 7) & has_0x(found) {
+        put(to, at, b"; write the digits alone, without 0x")
+    } else {
+        at
+    }
+}
+
+// Whether a byte order mark stands at the beginning.
+fn has_mark(found: &[u8]) -> bool
+    ensures { λ r. ⌜ r ≡ hasMark (now (found .entry)) ⌝ }
+{
+    begins(b"\xEF\xBB\xBF", found) | begins(b"\xFF\xFE", found) | begins(b"\xFE\xFF", found)
+}
+
+// Whether it is written as some languages write hex.
+fn has_0x(found: &[u8]) -> bool
+    ensures { λ r. ⌜ r ≡ has0x (now (found .entry)) ⌝ }
+{
+    begins(b"0x", found) | begins(b"0X", found)
 }
 
 // What was expected.

@@ -43,5 +43,6 @@ one-outcome =
       start-call = λ lent count fill image. the-two _ _;
       registers-call = λ lent image chip view. the-two _ _;
       pins-call = λ lent image chip view. the-two _ _;
+      meaning-call = λ lent number text. the-two _ _;
       run-call = λ lent image events limit results accepted. the-one _;
     }

@@ -48,6 +48,7 @@ one-part =
       chip-response-level = λ c channel. the-one _;
       chip-response-byte = λ c level place. the-one _;
       listed-of = λ kind chip channel value. the-one _;
+      event-numbers = λ e. the-one _;
       next-number = λ number. the-one _;
       response-is-idle = λ r. the-one _;
       response-ends-by = λ r i code. the-one _;

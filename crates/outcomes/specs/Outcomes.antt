@@ -51,11 +51,12 @@ use Rattle.views.specs.Views.{registerView, pinView}
 use Rattle.run.proofs.run.Reads as run-run
 use Rattle.run.specs.Run.{Report, runOf}
 use Rattle.am9519a.proofs.am9519a_candidate.Reads as am9519a-candidate
+use Rattle.am9519a.proofs.am9519a_meaning.Reads as am9519a-meaning
 use Rattle.am9519a.proofs.am9519a_pins.Reads as am9519a-pins
 use Rattle.am9519a.proofs.am9519a_registers.Reads as am9519a-registers
 use Rattle.am9519a.proofs.am9519a_run.Reads as am9519a-run
 use Rattle.am9519a.proofs.am9519a_start.Reads as am9519a-start
-use Rattle.am9519a.specs.Calls.{Called, RunCalled, startCall, runCall, registersCall, pinsCall}
+use Rattle.am9519a.specs.Calls.{Called, RunCalled, startCall, runCall, registersCall, pinsCall, meaningCall}
 
 -- arguments that a call takes, a promise that the given outcome satisfies and no two do
 pub record Only {A : Type 0} (asked : Type 0) (promise : A → Type 0) (given : A) : Type 0 where
@@ -116,6 +117,10 @@ pub record OneOutcome : Type 0 where
   pub pins-call : (lent : Lfts 2) (image : RefT (List ℕ)) (chip : ℕ) (view : RefT (List ℕ))
       → let c : Called = pinsCall (image .now) chip (view .now) in
       Writes am9519a-pins.Asked am9519a-pins.Post lent (λ view. (image, (chip, (view, tt)))) view (c .number) (c .buffer)
+  -- the sentence of any number takes a lent buffer likewise: how long it is, and every byte of the buffer
+  pub meaning-call : (lent : Lfts 1) (number : ℕ) (text : RefT (List ℕ))
+      → let c : Called = meaningCall number (text .now) in
+      Writes am9519a-meaning.Asked am9519a-meaning.Post lent (λ text. (number, (text, tt))) text (c .number) (c .buffer)
   -- of a run from C the number, every byte of the image and of the results, and the accepted count: an outcome is all four
   pub run-call : (lent : Lfts 4) (image events : RefT (List ℕ)) (limit : ℕ) (results : RefT (List ℕ)) (accepted : RefT ℕ)
       → Only (am9519a-run.Asked lent (image, (events, (limit, (results, (accepted, tt))))))

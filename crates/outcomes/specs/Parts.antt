@@ -54,10 +54,11 @@ use Rattle.chip.specs.Reset.{powerUp}
 use Rattle.chip.specs.Sound.{chipSound}
 use Rattle.chip.specs.Status.{candidateOf, gintActive, gintPin, isArmed, statusByte, waitingNumber}
 use Rattle.chip.specs.declared.Chip.{Chip}
+use Rattle.event.proofs.Event.numbers.Reads as event-numbers
 use Rattle.event.proofs.Listed.of.Reads as listed-of
 use Rattle.event.proofs.next_number.Reads as next-number
 use Rattle.event.specs.Counting.{nextNumber}
-use Rattle.event.specs.Numbers.{listed}
+use Rattle.event.specs.Numbers.{listed, inNumbers}
 use Rattle.event.specs.declared.Event.the-variants.{Command, Status, Read, Line, Enable, Rise}
 use Rattle.event.specs.declared.Event.{Event}
 use Rattle.refusal.specs.Numbers.{firstOf}
@@ -150,6 +151,7 @@ pub record OnePart : Type 0 where
       → Determined chip-response-byte.Asked chip-response-byte.Post tt (c, (level, (place, tt))) (responseByte c level place)
   -- event: any four numbers as an event, and the event number after one more
   pub listed-of : (kind chip channel value : ℕ) → Determined listed-of.Asked listed-of.Post tt (kind, (chip, (channel, (value, tt)))) (listed kind chip channel value)
+  pub event-numbers : (e : Event) → Determined event-numbers.Asked event-numbers.Post tt (e, tt) (inNumbers e)
   pub next-number : (number : ℕ) → Determined next-number.Asked next-number.Post tt (number, tt) (nextNumber number)
   -- response: what any response says, and the walk before chip 0
   pub response-is-idle : (r : Response) → Determined response-is-idle.Asked response-is-idle.Post tt (r, tt) (isIdle r)

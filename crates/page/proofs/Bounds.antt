@@ -14,7 +14,8 @@ use Rattle.refusal.specs.declared.Answer.the-variants.{Done, Byte, Refused}
 use Rattle.chain.specs.declared.Chain.{Chain}
 use Rattle.page.specs.Page.{gintField, heading, chipPins, chainPins, pinsParts, requestBytes, stateFields, registersParts, pinsLine, registersLine, chipLines, chipsFrom, byteText, eventParts, pageOf}
 use Rattle.refusal.specs.Numbers.{isAccepted}
-use Rattle.steps.proofs.Bounds.{name-le}
+use Rattle.event.specs.declared.Numbered.{Numbered}
+use Rattle.steps.proofs.Bounds.{spelled-le}
 use Rattle.text.proofs.Fits.{joined-le, numbered-le, field-le, byte-le}
 use Rattle.text.specs.Written.{text, joined, field}
 use Rattle.views.specs.Views.{registerView, pinView}
@@ -98,14 +99,15 @@ answer-le (Byte b) = byte-le " byte " b (omega arith)
 answer-le (Refused why) = omega arith
 
 -- a page
-pub page-le : (kind : ℕ) (answer : Answer) (s : Chain) → length (pageOf kind answer s) ≤ 8576
+pub page-le : (line : ℕ) (step : Numbered) (answer : Answer) (s : Chain) → length (pageOf line step answer s) ≤ 10000
 unfolding pageOf
-page-le kind answer s =
-    let name : length (field "event " (s .event)) ≤ 64 = omega (arith, field-le "event " (s .event) (omega arith)) in
-    let byte : length (byteText answer) ≤ 64 = omega (arith, answer-le answer) in
+page-le line step answer s =
+    let number : length (field "event " (s .event)) ≤ 256 = omega (arith, field-le "event " (s .event) (omega arith)) in
+    let place : length (field " at " line) ≤ 256 = omega (arith, field-le " at " line (omega arith)) in
+    let byte : length (byteText answer) ≤ 256 = omega (arith, answer-le answer) in
     omega (
       arith,
-      length-append (joined (eventParts kind answer (s .event))) (chipsFrom (s .count) 0 s),
+      length-append (joined (eventParts line step answer (s .event))) (chipsFrom (s .count) 0 s),
       chips-all s,
-      joined-le 64 (eventParts kind answer (s .event)) (name, (omega arith, (name-le kind, (omega arith, (byte, (omega arith, tt)))))),
+      joined-le 256 (eventParts line step answer (s .event)) (number, (place, (omega arith, (spelled-le step, (omega arith, (byte, (omega arith, tt))))))),
     )

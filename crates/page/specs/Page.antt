@@ -1,4 +1,4 @@
--- What a page says of a state: the event, and for each chip in the count its pins and its registers, with one event number.
+-- What a page says of a state: the event with its step, and for each chip in the count its pins and its registers, with one event number.
 use mathlib.Core.Bool.{cond}
 use mathlib.Core.List.{List, [], _∷_, _++_}
 use Prim.Native.Nat.{ℕ, zero, suc, _+_}
@@ -7,7 +7,8 @@ use Rattle.refusal.specs.Numbers.{isAccepted}
 use Rattle.refusal.specs.declared.Answer.{Answer}
 use Rattle.refusal.specs.declared.Answer.the-variants.{Done, Byte, Refused}
 use Rattle.chain.specs.declared.Chain.{Chain}
-use Rattle.steps.specs.Kinds.{nameOf}
+use Rattle.event.specs.declared.Numbered.{Numbered}
+use Rattle.steps.specs.Spelled.{spelled}
 use Rattle.text.specs.Written.{text, decimal, joined, field, byteField}
 use Rattle.views.specs.Views.{registerView, pinView}
 use Rattle.views.specs.declared.PinView.{PinView}
@@ -58,16 +59,16 @@ abbrev pub chipsFrom : ℕ → ℕ → Chain → List ℕ
 chipsFrom zero i s = []
 chipsFrom (suc more) i s = chipLines i s ++ chipsFrom more (i + 1) s
 
--- event N KIND accepted, and the byte where one was driven or read
+-- event N at L STEP accepted, and the byte where one was driven or read
 abbrev pub byteText : Answer → List ℕ
 byteText Done = []
 byteText (Byte b) = byteField " byte " b
 byteText (Refused why) = []
 
-abbrev pub eventParts : ℕ → Answer → ℕ → List (List ℕ)
-eventParts kind answer event =
-    field "event " event ∷ text " " ∷ nameOf kind ∷ text " accepted" ∷ byteText answer ∷ text "\n" ∷ []
+abbrev pub eventParts : ℕ → Numbered → Answer → ℕ → List (List ℕ)
+eventParts line step answer event =
+    field "event " event ∷ field " at " line ∷ text " " ∷ spelled step ∷ text " accepted" ∷ byteText answer ∷ text "\n" ∷ []
 
--- the page after an accepted step
-unfoldable pub pageOf : ℕ → Answer → Chain → List ℕ
-pageOf kind answer s = joined (eventParts kind answer (s .event)) ++ chipsFrom (s .count) 0 s
+-- the page after an accepted step, from its line of the list
+unfoldable pub pageOf : ℕ → Numbered → Answer → Chain → List ℕ
+pageOf line step answer s = joined (eventParts line step answer (s .event)) ++ chipsFrom (s .count) 0 s

@@ -1,4 +1,4 @@
-// What a page says of a state: the event, and for each chip in the count the line of its pins and the line of its registers, all with one event number.
+// What a page says of a state: the event with its step, and for each chip in the count the line of its pins and the line of its registers, all with one event number.
 // A page is written into a lent buffer. The page stands here, its lines in lines.rt.
 mod lines;
 
@@ -8,29 +8,45 @@ ghost use Rattle.text.specs.Written.{joined, written};
 use crate::lines::put_pins_line;
 use crate::lines::put_registers_line;
 use chain::Chain;
+use event::Numbered;
 use refusal::Answer;
-use steps::kinds::put_name;
+use steps::spelled::put_step;
 use text::put::put;
 use text::put::put_byte_field;
 use text::put::put_field;
 use views::pin_view;
 use views::register_view;
 
-// The page after an accepted step.
-pub fn put_page(to: &mut [u8], at: usize, kind: u8, answer: Answer, chain: Chain) -> usize
-    ensures { λ r. ⌜ (now (to .exit), r) ≡ written (now (to .entry), at) (pageOf kind answer chain) ⌝ }
+// The page after an accepted step, from its line of the list.
+pub fn put_page(
+    to: &mut [u8],
+    at: usize,
+    line: u64,
+    step: Numbered,
+    answer: Answer,
+    chain: Chain,
+) -> usize
+    ensures { λ r. ⌜ (now (to .exit), r) ≡ written (now (to .entry), at) (pageOf line step answer chain) ⌝ }
 {
-    let next = put_event(to, at, kind, answer, chain.event);
+    let next = put_event(to, at, line, step, answer, chain.event);
     put_chips(to, next, chain)
 }
 
-// event N KIND accepted, and the byte where one was driven or read.
-fn put_event(to: &mut [u8], at: usize, kind: u8, answer: Answer, event: u16) -> usize
-    ensures { λ r. ⌜ (now (to .exit), r) ≡ written (now (to .entry), at) (joined (eventParts kind answer event)) ⌝ }
+// event N at L STEP accepted, and the byte where one was driven or read.
+fn put_event(
+    to: &mut [u8],
+    at: usize,
+    line: u64,
+    step: Numbered,
+    answer: Answer,
+    event: u16,
+) -> usize
+    ensures { λ r. ⌜ (now (to .exit), r) ≡ written (now (to .entry), at) (joined (eventParts line step answer event)) ⌝ }
 {
     let next = put_field(to, at, b"event ", event as u64);
+    let next = put_field(to, next, b" at ", line);
     let next = put(to, next, b" ");
-    let next = put_name(to, next, kind);
+    let next = put_step(to, next, step);
     let next = put(to, next, b" accepted");
     let next = put_byte(to, next, answer);
     put(to, next, b"\n")

@@ -1,1 +1,2 @@
+pub mod EverySentence
 pub mod Numbers

@@ -1,2 +1,4 @@
 pub mod Answers
+pub mod EverySentence
 pub mod Numbers
+pub mod Sentences

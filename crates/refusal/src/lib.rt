@@ -1,9 +1,10 @@
-// The numbers handed back: why a call is refused, the number of each reason, and what an event answers.
-// A failure has a name here; document 01's table of numbers stands in specs/ and every promise goes through it.
+// The numbers handed back: why a call is refused, the number of each reason, what it says to people, and what an event answers.
+// A failure has a name here; document 01's table of numbers stands in specs/, beside the table of sentences, and every promise goes through it.
 ghost use mathlib.Core.Path.{_≡_};
 ghost use Rattle.refusal.specs.Numbers.{refusalNumber, verdictNumber, isAccepted};
 
 mod answers;
+pub mod sentences;
 
 // The reasons, in the table's order.
 pub enum Refusal {

@@ -8,16 +8,18 @@ use native.Mathlib.Omega.{arith}
 use borrow.Author.Tests.{lt-ltb}
 use lib.Dec.{eqb}
 use lib.ListN.{length, getD, take, drop}
-use lib.Seq.{length-take-le}
-use Rattle.report.specs.Report.{before, linesOf, printed, reply, lineReply, lastReply}
+use lib.Seq.{length-take-le, take-take}
+use Rattle.report.specs.Report.{before, linesOf, printed, hasEnded, ends, reply, lineReply, lastReply}
+use Rattle.messages.specs.Messages.{malformedLine}
 use Rattle.report.specs.EveryList.{OnThePage, EveryList}
+use Rattle.report.specs.declared.Course.the-variants.{Stopped}
 use Rattle.report.specs.declared.Report.{Report}
 use Rattle.report.proofs.Bounds.{reply-le, last-le}
-use Rattle.steps.specs.Lines.{stepOf}
+use Rattle.steps.specs.Lines.{stepOf, foundIn}
 use Rattle.steps.specs.declared.Expected.the-variants.{Shorter}
 use Rattle.steps.specs.declared.Step.the-variants.{Malformed}
 use Rattle.text.proofs.Fits.{fits}
-use Rattle.text.specs.Words.{lead, lineEnd}
+use Rattle.text.specs.Words.{lead, lineEnd, word}
 use Rattle.text.specs.declared.Sort.the-variants.{Inside}
 
 -- a text of at most 16,384 bytes is on the page
@@ -66,26 +68,36 @@ has-a-line (c ∷ cs) = either (eqb c 10) (linesOf cs)
 line-by-line :
     (line rest : List ℕ) (r : Report)
     → lineEnd line ≡ length line
-    → printed r (linesOf (line ++ (10 ∷ rest))) ≡ reply line r .print ++ cond (reply line r .ended) [] (printed (reply line r .report) (linesOf rest))
+    → printed r (linesOf (line ++ (10 ∷ rest))) ≡ reply line r .print ++ cond (hasEnded (reply line r .course)) [] (printed (reply line r .report) (linesOf rest))
 unfolding lineEnd
 line-by-line line rest r is =
     ap (printed r) (first-line line rest is ∙ ap (λ lines. line ∷ lines) (has-a-line rest))
-    ∙ ap (λ lines. reply line r .print ++ cond (reply line r .ended) [] (printed (reply line r .report) lines)) (sym (has-a-line rest))
+    ∙ ap (λ lines. reply line r .print ++ cond (hasEnded (reply line r .course)) [] (printed (reply line r .report) lines)) (sym (has-a-line rest))
 
 the-last-line : (line : List ℕ) (r : Report) → lineEnd line ≡ length line → printed r (linesOf line) ≡ lastReply line r .print
 unfolding lineEnd
 the-last-line line r is = ap (printed r) (only-line line is)
 
 -- a line that is too long
-shorter : (started : Bool) (line : List ℕ) → 1024 < length line → stepOf started line ≡ Malformed Shorter
+shorter : (started : Bool) (line : List ℕ) → 1024 < length line → stepOf started line ≡ Malformed Shorter 0
 unfolding stepOf
 shorter started line h = simp (lt-ltb 1024 (length line) h)
 
+-- of which the first 1,024 bytes are looked at
+found-there : (line : List ℕ) → 1024 < length line → foundIn 0 line ≡ word (take 1024 line)
+unfolding foundIn
+found-there line h = simp (lt-ltb 1024 (length line) h)
+
 too-long : (line : List ℕ) (n : ℕ) (r : Report) → 1024 < n → n ≤ length line → reply (take n line) r ≡ reply line r
-unfolding reply
+unfolding reply lineReply
 too-long line n r long has =
-    ap (λ step. lineReply step r)
-    (shorter (r .started) (take n line) (omega (arith, length-take-le n line has, long)) ∙ sym (shorter (r .started) line (omega (arith, long, has))))
+    let front : 1024 < length (take n line) = omega (arith, length-take-le n line has, long) in
+    let whole : 1024 < length line = omega (arith, long, has) in
+    let found : foundIn 0 (take n line) ≡ foundIn 0 line =
+    found-there (take n line) front ∙ ap word (take-take 1024 n line (omega (arith, long))) ∙ sym (found-there line whole) in
+    ap (λ step. lineReply step (take n line) r) (shorter (r .started) (take n line) front)
+    ∙ ap (λ l. ends Stopped (malformedLine (r .line) Shorter l) r) found
+    ∙ sym (ap (λ step. lineReply step line r) (shorter (r .started) line whole))
 
 pub every-list : EveryList
 every-list =

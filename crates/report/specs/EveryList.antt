@@ -4,7 +4,7 @@ use mathlib.Core.List.{List, [], _∷_, _++_}
 use mathlib.Core.Path.{_≡_}
 use Prim.Native.Nat.{ℕ, _≤_, _<_}
 use lib.ListN.{length, take, drop}
-use Rattle.report.specs.Report.{reply, lastReply, linesOf, printed}
+use Rattle.report.specs.Report.{hasEnded, reply, lastReply, linesOf, printed}
 use Rattle.report.specs.declared.Report.{Report}
 use Rattle.text.specs.Words.{lineEnd}
 use Rattle.text.specs.Written.{written}
@@ -21,7 +21,7 @@ pub record EveryList : Type 0 where
       (line rest : List ℕ) (r : Report)
       → lineEnd line ≡ length line
       → printed r (linesOf (line ++ (10 ∷ rest)))
-      ≡ reply line r .print ++ cond (reply line r .ended) [] (printed (reply line r .report) (linesOf rest))
+      ≡ reply line r .print ++ cond (hasEnded (reply line r .course)) [] (printed (reply line r .report) (linesOf rest))
   -- the last line has none
   pub the-last-line : (line : List ℕ) (r : Report) → lineEnd line ≡ length line → printed r (linesOf line) ≡ lastReply line r .print
   -- of a line that is too long, its first 1,025 bytes tell

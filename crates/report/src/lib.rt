@@ -1,10 +1,11 @@
 // The report of an event list, as text: a page for the start and after every accepted event, and a last line where a list ends before its end.
 // It is made line by line, into a lent buffer.
-ghost use mathlib.Core.Bool.{true, false};
 ghost use mathlib.Core.Path.{_≡_};
-ghost use Rattle.report.specs.Report.{atFirst, nextReport, Tells, stepReply, reply, lastReply};
+ghost use Rattle.report.specs.Report.{atFirst, nextReport, hasEnded, Tells, stepReply, reply, lastReply};
+ghost use Rattle.report.specs.declared.Course.the-variants.{GoesOn};
 use chain::Chain;
 use chain::Outcome;
+use event::Numbered;
 use messages::put_malformed;
 use messages::put_refused;
 use page::put_page;
@@ -12,6 +13,7 @@ use refusal::Verdict;
 use steps::Expected;
 use steps::Step;
 use steps::kinds::START;
+use steps::line::found_in;
 use steps::line::step_of;
 
 // A page of this many bytes has room for all that a line prints.
@@ -24,11 +26,31 @@ pub struct Report {
     pub chain: Chain,
 }
 
-// What a line has done: the report after it, how many bytes it has printed, and whether the report ends there.
+// How a report goes on after a line: it does; or its list is over; or it has stopped before that, since a step was refused or a line is malformed.
+pub enum Course {
+    GoesOn,
+    Over,
+    Stopped,
+}
+
+// What a line has done: the report after it, how many bytes it has printed, and how it goes on.
 pub struct Taken {
     pub report: Report,
     pub length: usize,
-    pub ended: bool,
+    pub course: Course,
+}
+
+impl Course {
+    // Whether nothing more is printed.
+    pub fn has_ended(self) -> bool
+        ensures { λ r. ⌜ r ≡ hasEnded self ⌝ }
+    {
+        match self {
+            Course::GoesOn => false,
+            Course::Over => true,
+            Course::Stopped => true,
+        }
+    }
 }
 
 impl Report {
@@ -54,13 +76,22 @@ impl Report {
             Step::Nothing => self.goes_on(self.started, self.chain, 0),
             Step::Start(count, fill) => {
                 let started = Chain::start(count, fill);
-                self.answer(START, started, page)
+                let step = Numbered {
+                    kind: START,
+                    chip: count,
+                    channel: 0,
+                    value: fill,
+                };
+                self.answer(step, started, page)
             }
-            Step::Happens(kind, event) => {
+            Step::Happens(event) => {
                 let happened = self.chain.on(event);
-                self.answer(kind, happened, page)
+                self.answer(event.numbers(), happened, page)
             }
-            Step::Malformed(expected) => self.ends(put_malformed(page, 0, self.line, expected)),
+            Step::Malformed(expected, place) => {
+                let length = put_malformed(page, 0, self.line, expected, found_in(line, place));
+                self.ends(length, Course::Stopped)
+            }
         }
     }
 
@@ -69,31 +100,40 @@ impl Report {
         ensures { λ r. ⌜ Tells (lastReply (now (line .entry)) self) (now (page .entry)) r (now (page .exit)) ⌝ }
     {
         let taken = self.take(line, page);
-        if taken.ended {
+        let course = taken.course;
+        if course.has_ended() {
             return taken;
         }
         let report = taken.report;
         if report.started {
-            return report.ends(taken.length);
+            return report.ends(taken.length, Course::Over);
         }
-        report.ends(put_malformed(page, taken.length, self.line, Expected::TheStart))
+        let length = put_malformed(page, taken.length, self.line, Expected::TheStart, b"");
+        report.ends(length, Course::Stopped)
     }
 
     // An accepted step prints its page, a refused one its refusal.
-    fn answer(self, kind: u8, outcome: Outcome, page: &mut [u8]) -> Taken
-        ensures { λ r. ⌜ Tells (stepReply kind (outcome .answer) (outcome .chain) self) (now (page .entry)) r (now (page .exit)) ⌝ }
+    fn answer(self, step: Numbered, outcome: Outcome, page: &mut [u8]) -> Taken
+        ensures { λ r. ⌜ Tells (stepReply step (outcome .answer) (outcome .chain) self) (now (page .entry)) r (now (page .exit)) ⌝ }
     {
         let answer = outcome.answer;
         let chain = outcome.chain;
         let verdict = answer.verdict();
         match verdict {
-            Verdict::Accepted => self.goes_on(true, chain, put_page(page, 0, kind, answer, chain)),
-            Verdict::Refused(why) => self.ends(put_refused(page, 0, self.line, kind, why)),
+            Verdict::Accepted => self.goes_on(
+                true,
+                chain,
+                put_page(page, 0, self.line, step, answer, chain),
+            ),
+            Verdict::Refused(why) => self.ends(
+                put_refused(page, 0, self.line, step, why),
+                Course::Stopped,
+            ),
         }
     }
 
     fn goes_on(self, started: bool, chain: Chain, length: usize) -> Taken
-        ensures { λ r. ⌜ r ≡ record { report = nextReport started chain self; length = length; ended = false } ⌝ }
+        ensures { λ r. ⌜ r ≡ record { report = nextReport started chain self; length = length; course = GoesOn } ⌝ }
     {
         let report = Report {
             line: std::num::wrapping_add_u64(self.line, 1),
@@ -103,17 +143,17 @@ impl Report {
         Taken {
             report: report,
             length: length,
-            ended: false,
+            course: Course::GoesOn,
         }
     }
 
-    fn ends(self, length: usize) -> Taken
-        ensures { λ r. ⌜ r ≡ record { report = self; length = length; ended = true } ⌝ }
+    fn ends(self, length: usize, course: Course) -> Taken
+        ensures { λ r. ⌜ r ≡ record { report = self; length = length; course = course } ⌝ }
     {
         Taken {
             report: self,
             length: length,
-            ended: true,
+            course: course,
         }
     }
 }

@@ -1,10 +1,13 @@
 -- The steps of an event list: their names, and the arguments that each takes. Kind 0 is the start; 1 to 8 are the events.
-use mathlib.Core.Bool.{cond}
+use mathlib.Core.Bool.{Bool, cond, not, _&&_}
 use mathlib.Core.List.{List}
 use Prim.Native.Nat.{ℕ}
-use lib.Dec.{eqb}
+use lib.Dec.{eqb, ltb}
+use lib.ListN.{take}
+use Rattle.text.specs.Cast.{cast}
 use Rattle.text.specs.Tables.{lineIn, placeIn}
 use Rattle.text.specs.Written.{text}
+use Rattle.text.specs.declared.Way.the-variants.{Small}
 use Rattle.steps.specs.declared.Argument.{Argument}
 use Rattle.steps.specs.declared.Argument.the-variants.{Count, Fill, Chip, Code, Byte, Channel, Level, End}
 use Rattle.steps.specs.declared.Form.{Form}
@@ -19,6 +22,13 @@ nameOf kind = lineIn kind names
 -- the kind that a word names; 9 if none
 unfoldable pub kindOf : List ℕ → ℕ
 kindOf word = placeIn names 9 word
+
+abbrev pub isName : List ℕ → Bool
+isName word = ltb (kindOf word) 9
+
+-- a word that is no name, but would be one in small letters; its first eight tell, since no name has as many
+unfoldable pub inCapitals : List ℕ → Bool
+inCapitals word = not (isName word) && isName (cast Small (take 8 word))
 
 abbrev pub taking : Argument → Argument → Argument → Form
 taking chip channel value = record { chip = chip; channel = channel; value = value }

@@ -1,13 +1,13 @@
 -- What a line of an event list says.
 use mathlib.Core.Bool.{Bool, true, false, cond, not, _&&_, _||_}
 use mathlib.Core.List.{List}
-use Prim.Native.Nat.{ℕ, _-_}
+use Prim.Native.Nat.{ℕ, _+_, _-_}
 use lib.Dec.{eqb, ltb}
 use lib.ListN.{length, getD, take, drop}
 use Rattle.event.specs.Numbers.{listed}
 use Rattle.event.specs.declared.Listed.{Listed}
 use Rattle.event.specs.declared.Listed.the-variants.{Known, Unknown}
-use Rattle.text.specs.Words.{word, behind, decimalIn, hexIn, wordStart, wordEnd}
+use Rattle.text.specs.Words.{word, behind, wordAt, decimalIn, hexIn, wordStart, wordEnd}
 use Rattle.text.specs.declared.Number.{Number}
 use Rattle.text.specs.declared.Number.the-variants.{Value, Wrong}
 use Rattle.steps.specs.Kinds.{kindOf, formOf, argumentNumber}
@@ -42,19 +42,32 @@ abbrev pub isOver : List ℕ → Bool
 isOver line = eqb (wordStart line) (wordEnd line)
 
 -- the step of a kind with its numbers: the count and the fill of a start, or the event that they are in a list of numbers
-abbrev pub happening : ℕ → Listed → Step
-happening kind (Known e) = Happens kind e
-happening kind Unknown = Malformed AnEvent
+abbrev pub happening : Listed → Step
+happening (Known e) = Happens e
+happening Unknown = Malformed AnEvent 0
 
 abbrev pub made : ℕ → ℕ → ℕ → ℕ → Step
-made kind chip channel value = cond (eqb kind 0) (Start chip value) (happening kind (listed kind chip channel value))
+made kind chip channel value = cond (eqb kind 0) (Start chip value) (happening (listed kind chip channel value))
 
--- of the three arguments and the end behind them, the first that is wrong is what was expected
+-- which word of the line each argument is, and the end behind them: the name is word 0
+abbrev pub words : Argument → ℕ
+words argument = cond (eqb (argumentNumber argument) 7) 0 1
+
+abbrev pub channelPlace : Form → ℕ
+channelPlace form = 1 + words (form .chip)
+
+abbrev pub valuePlace : Form → ℕ
+valuePlace form = channelPlace form + words (form .channel)
+
+abbrev pub endPlace : Form → ℕ
+endPlace form = valuePlace form + words (form .value)
+
+-- of the three arguments and the end behind them, the first that is wrong is what was expected, at its place
 unfoldable pub stepFrom : ℕ → Number → Number → Number → Bool → Step
-stepFrom kind Wrong channel value over = Malformed (Wanted kind (formOf kind .chip))
-stepFrom kind (Value a) Wrong value over = Malformed (Wanted kind (formOf kind .channel))
-stepFrom kind (Value a) (Value b) Wrong over = Malformed (Wanted kind (formOf kind .value))
-stepFrom kind (Value a) (Value b) (Value c) over = cond over (made kind a b c) (Malformed (Wanted kind End))
+stepFrom kind Wrong channel value over = Malformed (Wanted kind (formOf kind .chip)) 1
+stepFrom kind (Value a) Wrong value over = Malformed (Wanted kind (formOf kind .channel)) (channelPlace (formOf kind))
+stepFrom kind (Value a) (Value b) Wrong over = Malformed (Wanted kind (formOf kind .value)) (valuePlace (formOf kind))
+stepFrom kind (Value a) (Value b) (Value c) over = cond over (made kind a b c) (Malformed (Wanted kind End) (endPlace (formOf kind)))
 
 -- each argument behind the name, by what it should be
 unfoldable pub readBy : ℕ → Form → List ℕ → Step
@@ -80,7 +93,7 @@ awaited false = TheStart
 awaited true = AnEvent
 
 abbrev pub stepNamed : Bool → ℕ → List ℕ → Step
-stepNamed started kind rest = cond (mayStand started kind) (readAs kind rest) (Malformed (awaited started))
+stepNamed started kind rest = cond (mayStand started kind) (readAs kind rest) (Malformed (awaited started) 0)
 
 -- the first word names the step; a line without one says nothing
 unfoldable pub stepIn : Bool → List ℕ → Step
@@ -91,5 +104,15 @@ abbrev pub textEnd : List ℕ → ℕ
 textEnd line = cond (eqb (getD line (length line - 1) 0) 13) (length line - 1) (length line)
 
 -- a line has at most 1,024 bytes, its line feed not counted
+abbrev pub tooLong : List ℕ → Bool
+tooLong line = ltb 1024 (length line)
+
 unfoldable pub stepOf : Bool → List ℕ → Step
-stepOf started line = cond (ltb 1024 (length line)) (Malformed Shorter) (stepIn started (take (textEnd line) line))
+stepOf started line = cond (tooLong line) (Malformed Shorter 0) (stepIn started (take (textEnd line) line))
+
+-- the word that stands at a place of a line; of a line that is too long, the first 1,024 bytes are looked at
+abbrev pub lookedAt : List ℕ → ℕ
+lookedAt line = cond (tooLong line) 1024 (textEnd line)
+
+unfoldable pub foundIn : ℕ → List ℕ → List ℕ
+foundIn place line = wordAt place (take (lookedAt line) line)

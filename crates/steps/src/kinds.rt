@@ -1,11 +1,14 @@
 // The steps' names, and the arguments that each step takes.
 ghost use mathlib.Core.Path.{_≡_};
-ghost use Rattle.steps.specs.Kinds.{nameOf, kindOf, formOf, argumentNumber};
+ghost use Rattle.steps.specs.Kinds.{nameOf, kindOf, isName, inCapitals, formOf, argumentNumber};
 ghost use Rattle.text.specs.Written.{written};
 use crate::Argument;
 use crate::Form;
+use text::Way;
+use text::cast::put_cast;
 use text::tables::place_in;
 use text::tables::put_line;
+use text::words::first;
 
 // The kind of the start.
 pub const START: u8 = 0;
@@ -21,6 +24,21 @@ pub(crate) fn kind_of(word: &[u8]) -> u8
     ensures { λ r. ⌜ r ≡ kindOf (now (word .entry)) ⌝ }
 {
     place_in(&NAMES, KINDS, word)
+}
+
+// Whether a word is no name, but would be one in small letters.
+pub fn in_capitals(word: &[u8]) -> bool
+    ensures { λ r. ⌜ r ≡ inCapitals (now (word .entry)) ⌝ }
+{
+    let mut small = [0u8; 8];
+    let length = put_cast(&mut small, 0, first(word, 8), Way::Small);
+    !is_name(word) & is_name(&small[..length])
+}
+
+fn is_name(word: &[u8]) -> bool
+    ensures { λ r. ⌜ r ≡ isName (now (word .entry)) ⌝ }
+{
+    kind_of(word) < KINDS
 }
 
 // A step's name.

@@ -1,8 +1,9 @@
 // What a line of an event list says: the start, one of the eight events, nothing, or what it should have said.
 // A step is named by its kind, a number: 0 is the start, 1 to 8 are the events, by the kinds that they have in a list of numbers.
-// The records stand here; line.rt reads a line, kinds.rt has the steps' names and the arguments that each takes.
+// The records stand here; line.rt reads a line, kinds.rt has the steps' names and the arguments that each takes, spelled.rt writes a step.
 pub mod kinds;
 pub mod line;
+pub mod spelled;
 
 use event::Event;
 
@@ -43,7 +44,7 @@ pub enum Step {
     Nothing,
     // Count and fill.
     Start(u8, u8),
-    // An event, and its kind.
-    Happens(u8, Event),
-    Malformed(Expected),
+    Happens(Event),
+    // What should have stood there, and which word of the line that is, counted from 0.
+    Malformed(Expected, u8),
 }

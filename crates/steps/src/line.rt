@@ -3,7 +3,7 @@ ghost use mathlib.Core.Path.{_≡_};
 ghost use Prim.Native.Nat.{_≤_};
 ghost use lib.ListN.{length};
 ghost use Rattle.text.specs.Words.{word};
-ghost use Rattle.steps.specs.Lines.{textEnd, isOver, valueOf, argumentEnd, made, stepFrom, readAs, mayStand, awaited, stepNamed, stepIn, stepOf};
+ghost use Rattle.steps.specs.Lines.{textEnd, isOver, valueOf, words as Lines·words, argumentEnd, made, stepFrom, readAs, mayStand, awaited, stepNamed, stepIn, stepOf, lookedAt, foundIn};
 use crate::Argument;
 use crate::Expected;
 use crate::Step;
@@ -15,6 +15,7 @@ use event::Listed;
 use text::Number;
 use text::numbers::decimal_in;
 use text::numbers::hex_in;
+use text::words::word_at;
 use text::words::word_end;
 use text::words::word_start;
 
@@ -26,9 +27,28 @@ pub fn step_of(started: bool, line: &[u8]) -> Step
     ensures { λ r. ⌜ r ≡ stepOf started (now (line .entry)) ⌝ }
 {
     if line.len() > LONGEST {
-        return Step::Malformed(Expected::Shorter);
+        return Step::Malformed(Expected::Shorter, 0);
     }
     step_in(started, &line[..text_end(line)])
+}
+
+// The word that stands at a place of a line; of a line that is too long, the first bytes are looked at.
+pub fn found_in(line: &[u8], place: u8) -> &[u8]
+    ensures { λ r. ⌜ now r ≡ foundIn place (now (line .entry)) ⌝ }
+{
+    word_at(&line[..looked_at(line)], place)
+}
+
+// How many bytes of a line are looked at.
+fn looked_at(line: &[u8]) -> usize
+    ensures { λ r. ⌜ r ≤ length (now (line .entry)) ⌝ }
+    ensures { λ r. ⌜ r ≡ lookedAt (now (line .entry)) ⌝ }
+{
+    if line.len() > LONGEST {
+        LONGEST
+    } else {
+        text_end(line)
+    }
 }
 
 // A line's length without the carriage return at its end.
@@ -69,7 +89,7 @@ fn step_named(started: bool, kind: u8, rest: &[u8]) -> Step
     if may_stand(started, kind) {
         read_as(kind, rest)
     } else {
-        Step::Malformed(await_for(started))
+        Step::Malformed(await_for(started), 0)
     }
 }
 
@@ -151,22 +171,33 @@ fn step_from(kind: u8, chip: Number, channel: Number, value: Number, over: bool)
     let one = form.chip;
     let two = form.channel;
     let three = form.value;
+    let channel_place = 1 + words(one);
+    let value_place = channel_place + words(two);
+    let end_place = value_place + words(three);
     match chip {
-        Number::Wrong => Step::Malformed(Expected::Wanted(kind, one)),
+        Number::Wrong => Step::Malformed(Expected::Wanted(kind, one), 1),
         Number::Value(a) => match channel {
-            Number::Wrong => Step::Malformed(Expected::Wanted(kind, two)),
+            Number::Wrong => Step::Malformed(Expected::Wanted(kind, two), channel_place),
             Number::Value(b) => match value {
-                Number::Wrong => Step::Malformed(Expected::Wanted(kind, three)),
+                Number::Wrong => Step::Malformed(Expected::Wanted(kind, three), value_place),
                 Number::Value(c) => {
                     if over {
                         make(kind, a, b, c)
                     } else {
-                        Step::Malformed(Expected::Wanted(kind, Argument::End))
+                        Step::Malformed(Expected::Wanted(kind, Argument::End), end_place)
                     }
                 }
             },
         },
     }
+}
+
+// How many words of a line an argument is: one, or none where it is the end.
+fn words(argument: Argument) -> u8
+    ensures { λ r. ⌜ r ≤ 1 ⌝ }
+    ensures { λ r. ⌜ r ≡ Lines·words argument ⌝ }
+{
+    if argument.number() == 7 { 0 } else { 1 }
 }
 
 // The step of a kind with its numbers: the count and the fill of a start, or the event that they are in a list of numbers.
@@ -178,7 +209,7 @@ fn make(kind: u8, chip: u8, channel: u8, value: u8) -> Step
     }
     let listed = Listed::of(kind, chip, channel, value);
     match listed {
-        Listed::Known(event) => Step::Happens(kind, event),
-        Listed::Unknown => Step::Malformed(Expected::AnEvent),
+        Listed::Known(event) => Step::Happens(event),
+        Listed::Unknown => Step::Malformed(Expected::AnEvent, 0),
     }
 }

@@ -1,16 +1,16 @@
--- A text for which there is room is written whole; and how long a number's text may be.
+-- A text for which there is room is written whole, and can be taken out again; and how long a number's text may be.
 -- Assumes nothing.
 use mathlib.Core.Bool.{Bool, true, false, cond}
 use mathlib.Core.List.{List, [], _∷_, _++_, append-assoc}
-use mathlib.Core.Path.{_≡_, sym, ap, ap₂, _∙_}
+use mathlib.Core.Path.{_≡_, refl, sym, ap, ap₂, _∙_}
 use Prim.Native.Nat.{ℕ, zero, suc, _+_, _*_, _/_, _%_, _≤_}
 use Prim.Native.String.{String}
 use native.Mathlib.Nat.{zero-add, le-refl}
 use native.Mathlib.Omega.{arith}
 use borrow.Author.Tests.{lt-ltb}
 use lib.Dec.{eqb}
-use lib.ListN.{length, set, drop, length-append}
-use lib.Seq.{set-append-seam, append-snoc}
+use lib.ListN.{length, set, take, drop, length-append}
+use lib.Seq.{set-append-seam, append-snoc, take-at}
 use Rattle.text.specs.Fits.{Fits}
 use Rattle.text.specs.Written.{text, written, digits, decimal, hexByte, joined, field, byteField}
 
@@ -28,6 +28,12 @@ behind p (x ∷ xs) (b ∷ bs) h =
 
 pub fits : Fits
 fits = record { whole = λ old new h. behind [] old new h ∙ ap (λ (n : ℕ). (new ++ drop (length new) old, n)) (zero-add (length new)) }
+
+-- so what was written can be taken out again
+pub written-out : (old new after : List ℕ) (n : ℕ) → length new ≤ length old → _≡_ {A = List ℕ × ℕ} (after, n) (written (old, 0) new) → (n ≡ length new) × (take n after ≡ new)
+written-out old new after n h is =
+    let all = is ∙ fits .whole old new h in
+    (ap (λ to. to .1) all, ap (λ to. take (to .1) (to .0)) all ∙ take-at new (drop (length new) old) (length new) refl)
 
 -- a number has at most twenty digits
 digits-le : (k n : ℕ) → length (digits k n) ≤ k
@@ -51,6 +57,15 @@ pub joined-le : (most : ℕ) (parts : List (List ℕ)) → Each most parts → l
 joined-le most [] each = omega arith
 joined-le most (part ∷ parts) each =
     omega (arith, length-append part (joined parts), joined-le most parts (each .1), each .0)
+
+-- and how long they are together
+abbrev pub total : List (List ℕ) → ℕ
+total [] = 0
+total (part ∷ parts) = length part + total parts
+
+pub joined-total : (parts : List (List ℕ)) → length (joined parts) ≡ total parts
+joined-total [] = refl
+joined-total (part ∷ parts) = length-append part (joined parts) ∙ ap (λ (n : ℕ). length part + n) (joined-total parts)
 
 -- a name of at most twelve letters, and a number or a byte
 pub numbered-le : (name : List ℕ) (n : ℕ) → length name ≤ 12 → length (name ++ decimal n) ≤ 32

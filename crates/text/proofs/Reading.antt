@@ -16,7 +16,7 @@ use Rattle.text.specs.declared.Number.the-variants.{Value, Wrong}
 use Rattle.text.specs.declared.Sort.{Sort}
 
 -- what stands from a place on, where something does
-split : (l : List ℕ) (k : ℕ) → k < length l → drop k l ≡ getD l k 0 ∷ drop (k + 1) l
+pub split : (l : List ℕ) (k : ℕ) → k < length l → drop k l ≡ getD l k 0 ∷ drop (k + 1) l
 split l k h = drop-cons l k 0 h ∙ ap (λ (n : ℕ). getD l k 0 ∷ drop n l) (sym (add-one k))
 
 -- a byte that passes is one more, one that does not is the end, as the end of the text is

@@ -1,3 +1,4 @@
+pub mod Cast
 pub mod Fits
 pub mod Tables
 pub mod Words

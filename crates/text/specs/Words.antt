@@ -1,9 +1,9 @@
 -- The lines of a text, the words of a line, and the numbers that words say.
 use mathlib.Core.Bool.{Bool, true, false, cond, _&&_, _||_, not}
 use mathlib.Core.List.{List, [], _∷_}
-use Prim.Native.Nat.{ℕ, suc, _+_, _-_, _*_}
+use Prim.Native.Nat.{ℕ, zero, suc, _+_, _-_, _*_}
 use lib.Dec.{leb, eqb}
-use lib.ListN.{take, drop}
+use lib.ListN.{length, take, drop}
 use Rattle.text.specs.declared.Number.{Number}
 use Rattle.text.specs.declared.Number.the-variants.{Value, Wrong}
 use Rattle.text.specs.declared.Sort.{Sort}
@@ -46,12 +46,21 @@ word line = take (wordEnd line - wordStart line) (drop (wordStart line) line)
 unfoldable pub behind : List ℕ → List ℕ
 behind line = drop (wordEnd line) line
 
+-- word k of a line, counted from 0; nothing where the line has fewer
+abbrev pub wordAt : ℕ → List ℕ → List ℕ
+wordAt zero line = word line
+wordAt (suc k) line = wordAt k (behind line)
+
 -- whether two texts are the same
 abbrev pub same : List ℕ → List ℕ → Bool
 same [] [] = true
 same [] (d ∷ ds) = false
 same (c ∷ cs) [] = false
 same (c ∷ cs) (d ∷ ds) = eqb c d && same cs ds
+
+-- whether a text begins with another
+abbrev pub begins : List ℕ → List ℕ → Bool
+begins beginning text = same (take (length beginning) text) beginning
 
 -- whether a byte is a digit
 abbrev pub isDigit : ℕ → Bool

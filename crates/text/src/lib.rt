@@ -1,5 +1,6 @@
-// Text in lent buffers: written, as quoted words, decimal numbers and bytes in hex; and read, as lines, words and the numbers that words say.
+// Text in lent buffers: written, as quoted words, decimal numbers, bytes in hex and words that were found; and read, as lines, words and the numbers that words say.
 // Every call is answered for every input: what there is no room for is not written, and what is no number is told to be none.
+pub mod cast;
 pub mod numbers;
 pub mod put;
 pub mod tables;
@@ -9,6 +10,12 @@ pub mod words;
 pub enum Number {
     Value(u8),
     Wrong,
+}
+
+// Another form of a byte: one that can be shown to people, or in small letters.
+pub enum Way {
+    Shown,
+    Small,
 }
 
 // Bytes that stand together: blanks, the letters of a word, or what is inside a line.

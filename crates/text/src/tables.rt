@@ -10,7 +10,7 @@ use crate::words::past;
 use crate::words::same;
 
 // Line k of a text; nothing where the text has fewer lines.
-fn line_in(text: &[u8], k: u8) -> &[u8]
+pub fn line_in(text: &[u8], k: u8) -> &[u8]
     ensures { λ r. ⌜ now r ≡ lineIn k (now (text .entry)) ⌝ }
 {
     let mut at = 0usize;

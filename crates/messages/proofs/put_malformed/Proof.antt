@@ -19,8 +19,8 @@ slice-aggregate-put c = search needs
 put-requires : tie.Need-put-requires
 put-requires c κs = search needs
 
-put-expected-requires : tie.Need-put-expected-requires
-put-expected-requires c κs = search needs
+put-found-requires : tie.Need-put-found-requires
+put-found-requires c κs = search needs
 
 slice-aggregate-put-2 : tie.Need-slice-aggregate-put-2
 slice-aggregate-put-2 c = search needs
@@ -28,12 +28,25 @@ slice-aggregate-put-2 c = search needs
 put-requires-2 : tie.Need-put-requires-2
 put-requires-2 c κs = search needs
 
+put-expected-requires : tie.Need-put-expected-requires
+put-expected-requires c κs = search needs
+
+put-hint-requires : tie.Need-put-hint-requires
+put-hint-requires c κs = search needs
+
+slice-aggregate-put-3 : tie.Need-slice-aggregate-put-3
+slice-aggregate-put-3 c = search needs
+
+put-requires-3 : tie.Need-put-requires-3
+put-requires-3 c κs = search needs
+
 same-length : tie.Need-same-length
 same-length c = search needs
 
 returns : tie.Need-returns
 unfolding malformedLine
-returns c = c .before .before .put2 .ensures ∙ again _ (c .before .before .before .before .before .before .before .put-expected .ensures ∙ again _ (c .before .before .before .before .before .before .before .before .before .before .before .put .ensures ∙ again _ (c .before .before .before .before .before .before .before .before .before .before .before .before .before .before .before .before .put-field .ensures))) ∙ all-written (c .before .before .before .before .before .before .before .before .before .before .before .before .before .before .before .before .before .before .before .before .args .to .now, c .before .before .before .before .before .before .before .before .before .before .before .before .before .before .before .before .before .before .before .before .args .at) (malformedParts (c .before .before .before .before .before .before .before .before .before .before .before .before .before .before .before .before .before .before .before .before .args .line) (c .before .before .before .before .before .before .before .before .before .before .before .before .before .before .before .before .before .before .before .before .args .expected))
+returns c = c .before .before .put3 .ensures ∙ again _ (c .before .before .before .before .before .before .before .put-hint .ensures ∙ again _ (c .before .before .before .before .before .before .before .before .before .before .before .put-expected .ensures ∙ again _ (c .before .before .before .before .before .before .before .before .before .before .before .before .before .before .before .put2 .ensures ∙ again _ (c .before .before .before .before .before .before .before .before .before .before .before .before .before .before .before .before .before .before .before .before .put-found .ensures ∙ again _ (c .before .before .before .before .before .before .before .before .before .before .before .before .before .before .before .before .before .before .before .before .before .before .before .before .put .ensures ∙ again _ (c .before .before .before .before .before .before .before .before .before .before .before .before .before .before .before .before .before .before .before .before .before .before .before .before .before .before .before .before .before .put-field .ensures))))))
+    ∙ all-written (c .before .before .before .before .before .before .before .before .before .before .before .before .before .before .before .before .before .before .before .before .before .before .before .before .before .before .before .before .before .before .before .before .before .before .args .to .now, c .before .before .before .before .before .before .before .before .before .before .before .before .before .before .before .before .before .before .before .before .before .before .before .before .before .before .before .before .before .before .before .before .before .before .args .at) (malformedParts (c .before .before .before .before .before .before .before .before .before .before .before .before .before .before .before .before .before .before .before .before .before .before .before .before .before .before .before .before .before .before .before .before .before .before .args .line) (c .before .before .before .before .before .before .before .before .before .before .before .before .before .before .before .before .before .before .before .before .before .before .before .before .before .before .before .before .before .before .before .before .before .before .args .expected) (c .before .before .before .before .before .before .before .before .before .before .before .before .before .before .before .before .before .before .before .before .before .before .before .before .before .before .before .before .before .before .before .before .before .before .args .found .now))
 
 pub put-malformed-spec : {M : Type 1} → statement M
 put-malformed-spec =
@@ -43,8 +56,12 @@ put-malformed-spec =
     put-field-requires
     slice-aggregate-put
     put-requires
-    put-expected-requires
+    put-found-requires
     slice-aggregate-put-2
     put-requires-2
+    put-expected-requires
+    put-hint-requires
+    slice-aggregate-put-3
+    put-requires-3
     same-length
     returns)

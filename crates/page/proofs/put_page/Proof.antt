@@ -19,7 +19,7 @@ same-length c = search needs
 
 returns : tie.Need-returns
 unfolding pageOf
-returns c = c .before .before .put-chips .ensures ∙ again _ (c .before .before .before .before .before .before .put-event .ensures) ∙ sym (written-append (c .before .before .before .before .before .before .before .before .before .args .to .now, c .before .before .before .before .before .before .before .before .before .args .at) (joined (eventParts (c .before .before .before .before .before .before .before .before .before .args .kind) (c .before .before .before .before .before .before .before .before .before .args .answer) (c .before .before .before .before .before .before .before .before .before .args .chain .event))) (chipsFrom (c .before .before .before .before .before .before .before .before .before .args .chain .count) 0 (c .before .before .before .before .before .before .before .before .before .args .chain)))
+returns c = c .before .before .put-chips .ensures ∙ again _ (c .before .before .before .before .before .before .put-event .ensures) ∙ sym (written-append (c .before .before .before .before .before .before .before .before .before .args .to .now, c .before .before .before .before .before .before .before .before .before .args .at) (joined (eventParts (c .before .before .before .before .before .before .before .before .before .args .line) (c .before .before .before .before .before .before .before .before .before .args .step) (c .before .before .before .before .before .before .before .before .before .args .answer) (c .before .before .before .before .before .before .before .before .before .args .chain .event))) (chipsFrom (c .before .before .before .before .before .before .before .before .before .args .chain .count) 0 (c .before .before .before .before .before .before .before .before .before .args .chain)))
 
 pub put-page-spec : {M : Type 1} → statement M
 put-page-spec = tie.close (tie.spec put-event-requires put-chips-requires same-length returns)

@@ -35,9 +35,9 @@ same-length c = search needs
 returns : tie.Need-returns
 unfolding stepReply
 returns c =
-    retold (byVerdict Accepted (c .before .before .before .before .before .before .before .before .before .before .args .kind) (c .before .before .before .before .before .before .before .before .before .before .args .outcome .answer) (c .before .before .before .before .before .before .before .before .before .before .args .outcome .chain) (c .before .before .before .before .before .before .before .before .before .before .args .self)) _ (c .before .before .before .before .before .before .before .before .before .before .args .page .now) _ _
-    (ap (λ v. byVerdict v (c .before .before .before .before .before .before .before .before .before .before .args .kind) (c .before .before .before .before .before .before .before .before .before .before .args .outcome .answer) (c .before .before .before .before .before .before .before .before .before .before .args .outcome .chain) (c .before .before .before .before .before .before .before .before .before .before .args .self)) (sym (c .before .before .before .before .before .enum-told .given .1) ∙ c .before .before .before .before .before .before .before .verdict .ensures))
-    (ap (λ t. t .report) (c .goes-on .ensures), (ap (λ t. t .ended) (c .goes-on .ensures), ap (λ t. (c .before .before .before .put-page .last .0, t .length)) (c .goes-on .ensures) ∙ c .before .before .before .put-page .ensures))
+    retold (byVerdict Accepted (c .before .before .before .before .before .before .before .before .before .before .args .step) (c .before .before .before .before .before .before .before .before .before .before .args .outcome .answer) (c .before .before .before .before .before .before .before .before .before .before .args .outcome .chain) (c .before .before .before .before .before .before .before .before .before .before .args .self)) _ (c .before .before .before .before .before .before .before .before .before .before .args .page .now) _ _
+    (ap (λ v. byVerdict v (c .before .before .before .before .before .before .before .before .before .before .args .step) (c .before .before .before .before .before .before .before .before .before .before .args .outcome .answer) (c .before .before .before .before .before .before .before .before .before .before .args .outcome .chain) (c .before .before .before .before .before .before .before .before .before .before .args .self)) (sym (c .before .before .before .before .before .enum-told .given .1) ∙ c .before .before .before .before .before .before .before .verdict .ensures))
+    (ap (λ t. t .report) (c .goes-on .ensures), (ap (λ t. t .course) (c .goes-on .ensures), ap (λ t. (c .before .before .before .put-page .last .0, t .length)) (c .goes-on .ensures) ∙ c .before .before .before .put-page .ensures))
 
 same-length-2 : tie.Need-same-length-2
 same-length-2 c = search needs
@@ -45,9 +45,9 @@ same-length-2 c = search needs
 returns-2 : tie.Need-returns-2
 unfolding stepReply
 returns-2 c =
-    retold (byVerdict (Refused _) (c .before .before .before .before .before .before .before .before .before .before .before .args .kind) (c .before .before .before .before .before .before .before .before .before .before .before .args .outcome .answer) (c .before .before .before .before .before .before .before .before .before .before .before .args .outcome .chain) (c .before .before .before .before .before .before .before .before .before .before .before .args .self)) _ (c .before .before .before .before .before .before .before .before .before .before .before .args .page .now) _ _
-    (ap (λ v. byVerdict v (c .before .before .before .before .before .before .before .before .before .before .before .args .kind) (c .before .before .before .before .before .before .before .before .before .before .before .args .outcome .answer) (c .before .before .before .before .before .before .before .before .before .before .before .args .outcome .chain) (c .before .before .before .before .before .before .before .before .before .before .before .args .self)) (sym (c .before .before .before .before .before .before .verdict2 .given .1) ∙ c .before .before .before .before .before .before .before .before .verdict .ensures))
-    (ap (λ t. t .report) (c .ends .ensures), (ap (λ t. t .ended) (c .ends .ensures), ap (λ t. (c .before .before .before .put-refused .last .0, t .length)) (c .ends .ensures) ∙ c .before .before .before .put-refused .ensures))
+    retold (byVerdict (Refused _) (c .before .before .before .before .before .before .before .before .before .before .before .args .step) (c .before .before .before .before .before .before .before .before .before .before .before .args .outcome .answer) (c .before .before .before .before .before .before .before .before .before .before .before .args .outcome .chain) (c .before .before .before .before .before .before .before .before .before .before .before .args .self)) _ (c .before .before .before .before .before .before .before .before .before .before .before .args .page .now) _ _
+    (ap (λ v. byVerdict v (c .before .before .before .before .before .before .before .before .before .before .before .args .step) (c .before .before .before .before .before .before .before .before .before .before .before .args .outcome .answer) (c .before .before .before .before .before .before .before .before .before .before .before .args .outcome .chain) (c .before .before .before .before .before .before .before .before .before .before .before .args .self)) (sym (c .before .before .before .before .before .before .verdict2 .given .1) ∙ c .before .before .before .before .before .before .before .before .verdict .ensures))
+    (ap (λ t. t .report) (c .ends .ensures), (ap (λ t. t .course) (c .ends .ensures), ap (λ t. (c .before .before .before .put-refused .last .0, t .length)) (c .ends .ensures) ∙ c .before .before .before .put-refused .ensures))
 
 pub answer-spec : {M : Type 1} → statement M
 answer-spec =
