@@ -15,11 +15,11 @@
 #define LISTED 200000u
 #define ROUNDS_MOST 99u
 
-static uint8_t events[LISTED * AM9519A_EVENT];
+static uint8_t events[LISTED * AM9519A_EVENT_SIZE];
 
 struct side {
-    uint8_t image[AM9519A_IMAGE];
-    uint8_t results[LISTED * AM9519A_RESULT];
+    uint8_t image[AM9519A_IMAGE_SIZE];
+    uint8_t results[LISTED * AM9519A_RESULT_SIZE];
     size_t accepted;
     uint8_t answer;
     double time[ROUNDS_MOST]; /* ns per event */

@@ -20,7 +20,7 @@ static const uint8_t events[] = {
     AM9519A_KIND_LINE,    1, 5, 0,    /* IREQ5 falls: a request */
     AM9519A_KIND_FALL,    0, 0, 0,    /* the first pulse */
 };
-#define LISTED (sizeof events / AM9519A_EVENT)
+#define LISTED (sizeof events / AM9519A_EVENT_SIZE)
 
 /* Tells of a refusal, and whether there was one. */
 static int refused(const char *call, unsigned number) {
@@ -31,8 +31,8 @@ static int refused(const char *call, unsigned number) {
 static unsigned number_at(const uint8_t *low) { return low[0] + 256u * low[1]; }
 
 static int print_pins(const uint8_t *image, uint8_t chip) {
-    uint8_t pins[AM9519A_PINS];
-    if (refused("pins", am9519a_pins(image, AM9519A_IMAGE, chip, pins, sizeof pins))) return 1;
+    uint8_t pins[AM9519A_PINS_SIZE];
+    if (refused("pins", am9519a_pins(image, AM9519A_IMAGE_SIZE, chip, pins, sizeof pins))) return 1;
     printf("pins %u chip %u EI %u EO %u GINT %c RIP %u PAUSE %u IACK %u\n", number_at(pins + AM9519A_PINS_EVENT), chip,
            pins[AM9519A_PINS_EI], pins[AM9519A_PINS_EO], "01z"[pins[AM9519A_PINS_GINT]], pins[AM9519A_PINS_RIP],
            pins[AM9519A_PINS_PAUSE], pins[AM9519A_PINS_IACK]);
@@ -40,8 +40,8 @@ static int print_pins(const uint8_t *image, uint8_t chip) {
 }
 
 static int print_registers(const uint8_t *image, uint8_t chip) {
-    uint8_t view[AM9519A_REGISTERS];
-    if (refused("registers", am9519a_registers(image, AM9519A_IMAGE, chip, view, sizeof view))) return 1;
+    uint8_t view[AM9519A_REGISTERS_SIZE];
+    if (refused("registers", am9519a_registers(image, AM9519A_IMAGE_SIZE, chip, view, sizeof view))) return 1;
     printf("registers %u chip %u IRR %02X ISR %02X IMR %02X ACR %02X MODE %02X STATUS %02X WAITING %u\n",
            number_at(view + AM9519A_REGISTERS_EVENT), chip, view[AM9519A_REGISTERS_IRR], view[AM9519A_REGISTERS_ISR],
            view[AM9519A_REGISTERS_IMR], view[AM9519A_REGISTERS_ACR], view[AM9519A_REGISTERS_MODE], view[AM9519A_REGISTERS_STATUS],
@@ -50,14 +50,14 @@ static int print_registers(const uint8_t *image, uint8_t chip) {
 }
 
 int main(void) {
-    uint8_t image[AM9519A_IMAGE], results[LISTED * AM9519A_RESULT];
+    uint8_t image[AM9519A_IMAGE_SIZE], results[LISTED * AM9519A_RESULT_SIZE];
     size_t accepted;
 
     if (refused("start", am9519a_start(CHIPS, 0, image, sizeof image))) return 1;
     /* A refusal of the image, the lengths or the room comes before any event, and leaves *accepted as it was. */
     accepted = 0;
     unsigned number = am9519a_run(image, sizeof image, events, sizeof events, SIZE_MAX, results, sizeof results, &accepted);
-    if (number == AM9519A_REFUSED_CHAIN || number == AM9519A_REFUSED_EVENTS || number == AM9519A_REFUSED_ROOM) {
+    if (number == AM9519A_REFUSED_CHAIN || number == AM9519A_REFUSED_EVENTS_LENGTH || number == AM9519A_REFUSED_ROOM) {
         printf("run refused %u\n", number);
         return 1;
     }

@@ -72,7 +72,7 @@ uint8_t am9519a_candidate(uint8_t irr, uint8_t imr, uint8_t isr, uint8_t mode, u
  *     image, and a refused view the old bytes in its buffer: look at the number before you go on. Bytes of a longer buffer past those
  *     named are left as they are.
  */
-#define AM9519A_IMAGE 528
+#define AM9519A_IMAGE_SIZE 528
 
 /* First the chain's own bytes, the head. Bytes 11 to 15 are 0. */
 #define AM9519A_IMAGE_COUNT 0               /* of chips, 1 to 8 */
@@ -87,9 +87,9 @@ uint8_t am9519a_candidate(uint8_t irr, uint8_t imr, uint8_t isr, uint8_t mode, u
 #define AM9519A_IMAGE_RESPONSE_DELIVERED 10 /* bytes driven so far, from 1 */
 
 /* Then eight records of 64 bytes, chip 0 first. Those past the count take part in nothing and are kept as they are. */
-#define AM9519A_HEAD 16   /* bytes before the records */
-#define AM9519A_RECORD 64 /* bytes of each */
-#define AM9519A_CHIP(i) (AM9519A_HEAD + AM9519A_RECORD * (i))
+#define AM9519A_HEAD_SIZE 16   /* bytes before the records */
+#define AM9519A_RECORD_SIZE 64 /* bytes of each */
+#define AM9519A_CHIP(i) (AM9519A_HEAD_SIZE + AM9519A_RECORD_SIZE * (i))
 
 /* Within a record. Bytes 11 to 15 and 24 to 31 are 0. */
 #define AM9519A_CHIP_IRR 0
@@ -116,8 +116,8 @@ uint8_t am9519a_candidate(uint8_t irr, uint8_t imr, uint8_t isr, uint8_t mode, u
  * An event is four bytes: kind, chip, channel, value. Those that its kind does not name are ignored.
  * A result is two bytes: 1 and the byte, if the event read one or a chip drove one; else 0 and 0.
  */
-#define AM9519A_EVENT 4
-#define AM9519A_RESULT 2
+#define AM9519A_EVENT_SIZE 4
+#define AM9519A_RESULT_SIZE 2
 
 #define AM9519A_KIND_COMMAND 1 /* chip, value: write the value to the command register */
 #define AM9519A_KIND_DATA 2    /* chip, value: write the value to the destination that a command chose */
@@ -130,18 +130,18 @@ uint8_t am9519a_candidate(uint8_t irr, uint8_t imr, uint8_t isr, uint8_t mode, u
 
 /* The numbers handed back. */
 #define AM9519A_ACCEPTED 0
-#define AM9519A_REFUSED_CHAIN 1       /* the image, as above; am9519a_start: also a count outside 1 to 8 */
-#define AM9519A_REFUSED_CHIP 2        /* chip not below the count */
-#define AM9519A_REFUSED_CHANNEL 3     /* line event, channel above 7 */
-#define AM9519A_REFUSED_LEVEL 4       /* line or enable event, level above 1 */
-#define AM9519A_REFUSED_IACK_LOW 5    /* a write or read, kinds 1 to 4, while IACK is low */
-#define AM9519A_REFUSED_IACK 6        /* IACK is at that level already */
-#define AM9519A_REFUSED_COMMAND 7     /* undefined command: 01 to 0F, A3, A7, AB, AF, D0 to DF hex */
-#define AM9519A_REFUSED_DESTINATION 8 /* data write without a destination */
-#define AM9519A_REFUSED_PLACE 9       /* data write to a level that has all the bytes of its count */
-#define AM9519A_REFUSED_EVENTS 10     /* the event bytes are not a multiple of four */
-#define AM9519A_REFUSED_ROOM 11       /* the results or the view do not fit into the buffer */
-#define AM9519A_REFUSED_KIND 12       /* event kind outside 1 to 8 */
+#define AM9519A_REFUSED_CHAIN 1             /* the image, as above; am9519a_start: also a count outside 1 to 8 */
+#define AM9519A_REFUSED_CHIP 2              /* chip not below the count */
+#define AM9519A_REFUSED_CHANNEL 3           /* line event, channel above 7 */
+#define AM9519A_REFUSED_LEVEL 4             /* line or enable event, level above 1 */
+#define AM9519A_REFUSED_BUS_IN_PULSE 5      /* a write or read, kinds 1 to 4, while IACK is low */
+#define AM9519A_REFUSED_IACK_THERE 6        /* IACK is at that level already */
+#define AM9519A_REFUSED_UNDEFINED_COMMAND 7 /* undefined command: 01 to 0F, A3, A7, AB, AF, D0 to DF hex */
+#define AM9519A_REFUSED_NO_DESTINATION 8    /* data write without a destination */
+#define AM9519A_REFUSED_PAST_COUNT 9        /* data write to a level that has all the bytes of its count */
+#define AM9519A_REFUSED_EVENTS_LENGTH 10    /* the event bytes are not a multiple of four */
+#define AM9519A_REFUSED_ROOM 11             /* the results or the view do not fit into the buffer */
+#define AM9519A_REFUSED_KIND 12             /* event kind outside 1 to 8 */
 
 /*
  * Starts a chain of count chips, as they are when power comes on: reset, all lines high, every response byte equal to fill and every
@@ -160,13 +160,13 @@ uint8_t am9519a_start(uint8_t count, uint8_t fill, uint8_t *image, size_t image_
  * into results two bytes per accepted event from the first byte on, and into *accepted how many there were.
  *
  * Returns
- *   0                        if it stopped at the limit or at the end,
- *   AM9519A_REFUSED_CHAIN    if the image is refused, whatever the rest; nothing is written,
- *   AM9519A_REFUSED_EVENTS   if events_length is not a multiple of four; nothing is written,
- *   AM9519A_REFUSED_ROOM     if results has fewer than two bytes per listed event, whatever the limit; nothing is written,
- *   another number           that of the first refused event, which is events[4 * *accepted] and on: AM9519A_REFUSED_KIND before all
- *                            others, then the lowest that applies. Image, results and *accepted hold the events before it, which
- *                            may be none; it and those after it have done nothing.
+ *   0                               if it stopped at the limit or at the end,
+ *   AM9519A_REFUSED_CHAIN           if the image is refused, whatever the rest; nothing is written,
+ *   AM9519A_REFUSED_EVENTS_LENGTH   if events_length is not a multiple of four; nothing is written,
+ *   AM9519A_REFUSED_ROOM            if results has fewer than two bytes per listed event, whatever the limit; nothing is written,
+ *   another number                  that of the first refused event, which is events[4 * *accepted] and on: AM9519A_REFUSED_KIND before
+ *                                   all others, then the lowest that applies. Image, results and *accepted hold the events before it,
+ *                                   which may be none; it and those after it have done nothing.
  */
 uint8_t am9519a_run(uint8_t *image, size_t image_length, const uint8_t *events, size_t events_length, size_t limit, uint8_t *results,
                     size_t results_length, size_t *accepted);
@@ -177,7 +177,7 @@ uint8_t am9519a_run(uint8_t *image, size_t image_length, const uint8_t *events, 
  * Reads the image. Writes the first 9 bytes of view.
  * Returns 0, or AM9519A_REFUSED_CHAIN, AM9519A_REFUSED_CHIP, or AM9519A_REFUSED_ROOM if view_length is below 9; view is then left as it was.
  */
-#define AM9519A_REGISTERS 9
+#define AM9519A_REGISTERS_SIZE 9
 #define AM9519A_REGISTERS_EVENT 0 /* the event number: low byte here, high byte next */
 #define AM9519A_REGISTERS_IRR 2
 #define AM9519A_REGISTERS_ISR 3
@@ -195,7 +195,7 @@ uint8_t am9519a_registers(const uint8_t *image, size_t image_length, uint8_t chi
  * Reads the image. Writes the first 8 bytes of view.
  * Returns 0, or AM9519A_REFUSED_CHAIN, AM9519A_REFUSED_CHIP, or AM9519A_REFUSED_ROOM if view_length is below 8; view is then left as it was.
  */
-#define AM9519A_PINS 8
+#define AM9519A_PINS_SIZE 8
 #define AM9519A_PINS_EVENT 0 /* the event number: low byte here, high byte next */
 #define AM9519A_PINS_EI 2
 #define AM9519A_PINS_EO 3

@@ -24,16 +24,16 @@
 
 static void starts(void) {
     static const uint8_t counts[] = {0, 1, 2, 3, 4, 5, 6, 7, 8, 9, 16, 128, 255};
-    static const size_t lengths[] = {0, 1, 16, AM9519A_IMAGE - 1, AM9519A_IMAGE + 1, IMAGE_MOST};
-    static const uint8_t before[AM9519A_IMAGE];
+    static const size_t lengths[] = {0, 1, 16, AM9519A_IMAGE_SIZE - 1, AM9519A_IMAGE_SIZE + 1, IMAGE_MOST};
+    static const uint8_t before[AM9519A_IMAGE_SIZE];
     part = "starts";
     lend_image(before);
     for (list_number = 0; list_number < 256; list_number++) {
         uint8_t fill = (uint8_t)list_number;
         for (list_position = 0; list_position < sizeof counts; list_position++) {
             uint8_t count = counts[list_position];
-            if (start(count, fill, AM9519A_IMAGE) != AM9519A_ACCEPTED) continue;
-            for (unsigned i = 0; i <= count; i++) views(AM9519A_IMAGE, (uint8_t)i, AM9519A_REGISTERS, AM9519A_PINS);
+            if (start(count, fill, AM9519A_IMAGE_SIZE) != AM9519A_ACCEPTED) continue;
+            for (unsigned i = 0; i <= count; i++) views(AM9519A_IMAGE_SIZE, (uint8_t)i, AM9519A_REGISTERS_SIZE, AM9519A_PINS_SIZE);
         }
         for (unsigned k = 0; k < sizeof lengths / sizeof *lengths; k++) start(counts[list_number % sizeof counts], fill, lengths[k]);
     }
@@ -43,7 +43,7 @@ static void starts(void) {
 static void begin(struct source *r, struct chain *s) {
     if (chance(r, 60)) {
         uint8_t count = (uint8_t)(1 + below(r, 8)), fill = (uint8_t)list_number;
-        start(count, fill, AM9519A_IMAGE);
+        start(count, fill, AM9519A_IMAGE_SIZE);
         model_start(s, count, fill);
     } else {
         random_chain(r, s);
@@ -64,7 +64,7 @@ static unsigned long event_by_event(struct source *r, unsigned long events) {
             struct chain before = s;
             random_event(r, &s, (unsigned)list_position, event);
             if (step(&s, event, (uint8_t)(list_position % s.count), result) == AM9519A_ACCEPTED) seen_event(&before, &s, event);
-            for (unsigned i = 0; i <= s.count; i++) views(AM9519A_IMAGE, (uint8_t)i, AM9519A_REGISTERS, AM9519A_PINS);
+            for (unsigned i = 0; i <= s.count; i++) views(AM9519A_IMAGE_SIZE, (uint8_t)i, AM9519A_REGISTERS_SIZE, AM9519A_PINS_SIZE);
         }
     }
     return done;
@@ -73,7 +73,7 @@ static unsigned long event_by_event(struct source *r, unsigned long events) {
 /* The list on a fresh copy of the chain, and what the run must say by itself. */
 static void run_list(const struct chain *from, const uint8_t *events, size_t listed, size_t refused_at, size_t limit) {
     lend_chain(from);
-    uint8_t refusal = run(AM9519A_IMAGE, events, 4 * listed, limit, 2 * listed);
+    uint8_t refusal = run(AM9519A_IMAGE_SIZE, events, 4 * listed, limit, 2 * listed);
     if ((refusal != AM9519A_ACCEPTED) != (refused_at < listed && refused_at < limit)) {
         printf("against: list %lu: the model returns %u\n", list_number, refusal);
         exit(1);
@@ -88,23 +88,23 @@ static void run_list(const struct chain *from, const uint8_t *events, size_t lis
 static void refused_lists(struct source *r, const struct chain *from, const uint8_t *events, size_t listed) {
     lend_chain(from);
     size_t odd = 4 * listed + 1 + below(r, 3);
-    run(AM9519A_IMAGE, events, odd, SIZE_MAX, 2 * listed + 2);
-    run(AM9519A_IMAGE, events, odd, 0, 0);
-    run(AM9519A_IMAGE - 1, events, odd, SIZE_MAX, 0);
-    run(AM9519A_IMAGE + 1, events, 4 * listed, SIZE_MAX, 2 * listed);
+    run(AM9519A_IMAGE_SIZE, events, odd, SIZE_MAX, 2 * listed + 2);
+    run(AM9519A_IMAGE_SIZE, events, odd, 0, 0);
+    run(AM9519A_IMAGE_SIZE - 1, events, odd, SIZE_MAX, 0);
+    run(AM9519A_IMAGE_SIZE + 1, events, 4 * listed, SIZE_MAX, 2 * listed);
     if (listed == 0) return;
-    run(AM9519A_IMAGE, events, 4 * listed, SIZE_MAX, 2 * listed - 1);
-    run(AM9519A_IMAGE, events, 4 * listed, 0, 2 * listed - 1);
-    run(AM9519A_IMAGE, events, 4 * listed, listed / 2, listed);
-    run(AM9519A_IMAGE, events, 4 * listed, SIZE_MAX, 0);
+    run(AM9519A_IMAGE_SIZE, events, 4 * listed, SIZE_MAX, 2 * listed - 1);
+    run(AM9519A_IMAGE_SIZE, events, 4 * listed, 0, 2 * listed - 1);
+    run(AM9519A_IMAGE_SIZE, events, 4 * listed, listed / 2, listed);
+    run(AM9519A_IMAGE_SIZE, events, 4 * listed, SIZE_MAX, 0);
 }
 
 static void view_lengths(struct source *r, const struct chain *from) {
     lend_chain(from);
-    for (size_t length = 0; length <= VIEW_MOST; length++) views(AM9519A_IMAGE, (uint8_t)below(r, from->count), length, length);
-    views(AM9519A_IMAGE, from->count, 0, 0);
-    views(AM9519A_IMAGE, 255, VIEW_MOST, VIEW_MOST);
-    views(AM9519A_IMAGE - 1, 255, 0, 0);
+    for (size_t length = 0; length <= VIEW_MOST; length++) views(AM9519A_IMAGE_SIZE, (uint8_t)below(r, from->count), length, length);
+    views(AM9519A_IMAGE_SIZE, from->count, 0, 0);
+    views(AM9519A_IMAGE_SIZE, 255, VIEW_MOST, VIEW_MOST);
+    views(AM9519A_IMAGE_SIZE - 1, 255, 0, 0);
 }
 
 static void lists_in_one_call(struct source *r, unsigned long lists) {
@@ -124,7 +124,7 @@ static void lists_in_one_call(struct source *r, unsigned long lists) {
         size_t limits[] = {0, 1, below(r, most), refused_at, refused_at + 1, listed, listed + 1, SIZE_MAX};
         for (unsigned k = 0; k < sizeof limits / sizeof *limits; k++) run_list(&from, events, listed, refused_at, limits[k]);
         lend_chain(&from);
-        run(AM9519A_IMAGE, events, 4 * listed, SIZE_MAX, 2 * listed + 1 + below(r, 2)); /* more room than needed */
+        run(AM9519A_IMAGE_SIZE, events, 4 * listed, SIZE_MAX, 2 * listed + 1 + below(r, 2)); /* more room than needed */
         refused_lists(r, &from, events, listed);
         view_lengths(r, &from);
     }

@@ -15,8 +15,8 @@ struct side {
     uint8_t pins[GUARD + VIEW_MOST + GUARD];
     size_t accepted[3]; /* the middle one is lent */
     uint8_t answers[8]; /* what the calls returned */
-    uint8_t events[GUARD + LISTED_MOST * AM9519A_EVENT + GUARD];
-    uint8_t results[GUARD + LISTED_MOST * AM9519A_RESULT + GUARD];
+    uint8_t events[GUARD + LISTED_MOST * AM9519A_EVENT_SIZE + GUARD];
+    uint8_t results[GUARD + LISTED_MOST * AM9519A_RESULT_SIZE + GUARD];
 };
 
 /* How much of the last two is in use: the guard, what is lent, or what the events would need if that is more, and the other guard. */
@@ -110,7 +110,7 @@ static void lend_to(struct side *to, const uint8_t *events, size_t events_length
 }
 
 static void lend(const uint8_t *events, size_t events_length, size_t results_length) {
-    size_t needed = events_length / AM9519A_EVENT * AM9519A_RESULT;
+    size_t needed = events_length / AM9519A_EVENT_SIZE * AM9519A_RESULT_SIZE;
     events_used = GUARD + events_length + GUARD;
     results_used = GUARD + (results_length > needed ? results_length : needed) + GUARD;
     lend_to(&model, events, events_length);
@@ -119,12 +119,12 @@ static void lend(const uint8_t *events, size_t events_length, size_t results_len
 #endif
 }
 
-static void lend_image_to(struct side *to, const uint8_t image[AM9519A_IMAGE]) {
+static void lend_image_to(struct side *to, const uint8_t image[AM9519A_IMAGE_SIZE]) {
     memset(to->image, noise(), sizeof to->image);
-    memcpy(to->image + GUARD, image, AM9519A_IMAGE);
+    memcpy(to->image + GUARD, image, AM9519A_IMAGE_SIZE);
 }
 
-void lend_image(const uint8_t image[AM9519A_IMAGE]) {
+void lend_image(const uint8_t image[AM9519A_IMAGE_SIZE]) {
     lend_image_to(&model, image);
 #ifndef MODEL_ALONE
     lend_image_to(&library, image);
@@ -132,46 +132,48 @@ void lend_image(const uint8_t image[AM9519A_IMAGE]) {
 }
 
 void lend_chain(const struct chain *s) {
-    uint8_t image[AM9519A_IMAGE];
+    uint8_t image[AM9519A_IMAGE_SIZE];
     model_image(s, image);
     lend_image(image);
 }
 
 uint8_t step(struct chain *s, const uint8_t event[4], uint8_t chip, uint8_t result[2]) {
-    lend(event, AM9519A_EVENT, AM9519A_RESULT);
-    model.answers[0] = model_run(s, model.events + GUARD, AM9519A_EVENT, 1, model.results + GUARD, AM9519A_RESULT, &model.accepted[1]);
-    model.answers[1] = model_registers(s, chip, model.registers + GUARD, AM9519A_REGISTERS);
-    model.answers[2] = model_pins(s, chip, model.pins + GUARD, AM9519A_PINS);
+    lend(event, AM9519A_EVENT_SIZE, AM9519A_RESULT_SIZE);
+    model.answers[0] =
+        model_run(s, model.events + GUARD, AM9519A_EVENT_SIZE, 1, model.results + GUARD, AM9519A_RESULT_SIZE, &model.accepted[1]);
+    model.answers[1] = model_registers(s, chip, model.registers + GUARD, AM9519A_REGISTERS_SIZE);
+    model.answers[2] = model_pins(s, chip, model.pins + GUARD, AM9519A_PINS_SIZE);
     model_image(s, model.image + GUARD);
 #ifndef MODEL_ALONE
-    library.answers[0] = am9519a_run(library.image + GUARD, AM9519A_IMAGE, library.events + GUARD, AM9519A_EVENT, 1,
-                                     library.results + GUARD, AM9519A_RESULT, &library.accepted[1]);
-    library.answers[1] = am9519a_registers(library.image + GUARD, AM9519A_IMAGE, chip, library.registers + GUARD, AM9519A_REGISTERS);
-    library.answers[2] = am9519a_pins(library.image + GUARD, AM9519A_IMAGE, chip, library.pins + GUARD, AM9519A_PINS);
+    library.answers[0] = am9519a_run(library.image + GUARD, AM9519A_IMAGE_SIZE, library.events + GUARD, AM9519A_EVENT_SIZE, 1,
+                                     library.results + GUARD, AM9519A_RESULT_SIZE, &library.accepted[1]);
+    library.answers[1] =
+        am9519a_registers(library.image + GUARD, AM9519A_IMAGE_SIZE, chip, library.registers + GUARD, AM9519A_REGISTERS_SIZE);
+    library.answers[2] = am9519a_pins(library.image + GUARD, AM9519A_IMAGE_SIZE, chip, library.pins + GUARD, AM9519A_PINS_SIZE);
 #endif
     for (unsigned k = 0; k < 3; k++) take_answer(model.answers[k]);
     compare();
     events_accepted += model.accepted[1];
-    take(model.image + GUARD, AM9519A_IMAGE);
-    take(model.results + GUARD, AM9519A_RESULT);
-    take(model.registers + GUARD, AM9519A_REGISTERS);
-    take(model.pins + GUARD, AM9519A_PINS);
+    take(model.image + GUARD, AM9519A_IMAGE_SIZE);
+    take(model.results + GUARD, AM9519A_RESULT_SIZE);
+    take(model.registers + GUARD, AM9519A_REGISTERS_SIZE);
+    take(model.pins + GUARD, AM9519A_PINS_SIZE);
     if (model.answers[2] == AM9519A_ACCEPTED) seen_pins(&s->chip[chip], model.pins + GUARD);
-    memcpy(result, model.results + GUARD, AM9519A_RESULT);
+    memcpy(result, model.results + GUARD, AM9519A_RESULT_SIZE);
     return model.answers[0];
 }
 
 uint8_t start(uint8_t count, uint8_t fill, size_t image_length) {
     struct chain s;
     lend(&fill, 0, 0);
-    model.answers[0] = image_length != AM9519A_IMAGE ? AM9519A_REFUSED_CHAIN : model_start(&s, count, fill);
+    model.answers[0] = image_length != AM9519A_IMAGE_SIZE ? AM9519A_REFUSED_CHAIN : model_start(&s, count, fill);
     if (model.answers[0] == AM9519A_ACCEPTED) model_image(&s, model.image + GUARD);
 #ifndef MODEL_ALONE
     library.answers[0] = am9519a_start(count, fill, library.image + GUARD, image_length);
 #endif
     take_answer(model.answers[0]);
     compare();
-    take(model.image + GUARD, AM9519A_IMAGE);
+    take(model.image + GUARD, AM9519A_IMAGE_SIZE);
     return model.answers[0];
 }
 
@@ -192,7 +194,7 @@ uint8_t run(size_t image_length, const uint8_t *events, size_t events_length, si
     compare();
     if (model.accepted[1] <= LISTED_MOST) events_accepted += model.accepted[1];
     take_word(model.accepted[1]);
-    take(model.image + GUARD, AM9519A_IMAGE);
+    take(model.image + GUARD, AM9519A_IMAGE_SIZE);
     take(model.results, results_used);
     return model.answers[0];
 }

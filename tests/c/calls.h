@@ -10,7 +10,7 @@
 #include "model.h"
 
 #define LISTED_MOST 512 /* events in one call */
-#define IMAGE_MOST (AM9519A_IMAGE + 16)
+#define IMAGE_MOST (AM9519A_IMAGE_SIZE + 16)
 #define VIEW_MOST 16
 
 /* Where the driver is, for the report of a difference. */
@@ -22,7 +22,7 @@ extern unsigned long calls, events_accepted;
 extern uint64_t digest;
 
 /* Puts an image into both sides; the bytes past it become noise. */
-void lend_image(const uint8_t image[AM9519A_IMAGE]);
+void lend_image(const uint8_t image[AM9519A_IMAGE_SIZE]);
 void lend_chain(const struct chain *s);
 
 /* One event on the lent image, whose chain is s, and both views of a chip after it. */

@@ -19,21 +19,21 @@ static void worked_chain(struct source *r, struct chain *s) {
 }
 
 /* What all calls make of these bytes. A start does not read them. */
-static void try_image(struct source *r, const uint8_t image[AM9519A_IMAGE], const uint8_t events[8]) {
+static void try_image(struct source *r, const uint8_t image[AM9519A_IMAGE_SIZE], const uint8_t events[8]) {
     struct chain s;
-    seen(model_read(&s, image, AM9519A_IMAGE) == AM9519A_ACCEPTED ? SEEN_DAMAGED_SOUND : SEEN_DAMAGED_REFUSED);
+    seen(model_read(&s, image, AM9519A_IMAGE_SIZE) == AM9519A_ACCEPTED ? SEEN_DAMAGED_SOUND : SEEN_DAMAGED_REFUSED);
     lend_image(image);
-    views(AM9519A_IMAGE, (uint8_t)below(r, 9), AM9519A_REGISTERS, AM9519A_PINS);
-    run(AM9519A_IMAGE, events, 8, SIZE_MAX, 4);
+    views(AM9519A_IMAGE_SIZE, (uint8_t)below(r, 9), AM9519A_REGISTERS_SIZE, AM9519A_PINS_SIZE);
+    run(AM9519A_IMAGE_SIZE, events, 8, SIZE_MAX, 4);
 }
 
-static void other_lengths(const uint8_t image[AM9519A_IMAGE], const uint8_t events[8]) {
+static void other_lengths(const uint8_t image[AM9519A_IMAGE_SIZE], const uint8_t events[8]) {
     static const size_t lengths[] = {0,   1,   2,   15,  16,  17,  79,  80,  81,  263, 264, 463, 464, 511,
                                      512, 520, 524, 525, 526, 527, 529, 530, 531, 532, 536, 540, 543, 544};
     lend_image(image);
     for (unsigned k = 0; k < sizeof lengths / sizeof *lengths; k++) {
         list_position = lengths[k];
-        views(lengths[k], 0, AM9519A_REGISTERS, AM9519A_PINS);
+        views(lengths[k], 0, AM9519A_REGISTERS_SIZE, AM9519A_PINS_SIZE);
         run(lengths[k], events, 8, SIZE_MAX, 4);
     }
     start(1, 0, 0);
@@ -43,14 +43,14 @@ void damaged_images(struct source *r, unsigned images) {
     part = "damaged images, the position being the byte or the length";
     for (list_number = 0; list_number < images; list_number++) {
         struct chain s;
-        uint8_t image[AM9519A_IMAGE], events[8];
+        uint8_t image[AM9519A_IMAGE_SIZE], events[8];
         do worked_chain(r, &s);
         while (list_number < WHOLE && s.response.under_way != list_number);
         model_image(&s, image);
         accepted_event(r, &s, 99, events);
         accepted_event(r, &s, 99, events + 4);
         other_lengths(image, events);
-        for (list_position = 0; list_position < AM9519A_IMAGE; list_position++) {
+        for (list_position = 0; list_position < AM9519A_IMAGE_SIZE; list_position++) {
             uint8_t good = image[list_position];
             unsigned tries = list_number < WHOLE ? 255 : 4;
             for (unsigned k = 0; k < tries; k++) {

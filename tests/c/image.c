@@ -4,7 +4,7 @@
 #include <string.h>
 
 static void put_chip(const struct chip *c, uint8_t *record) {
-    memset(record, 0, AM9519A_RECORD);
+    memset(record, 0, AM9519A_RECORD_SIZE);
     record[AM9519A_CHIP_IRR] = c->irr;
     record[AM9519A_CHIP_ISR] = c->isr;
     record[AM9519A_CHIP_IMR] = c->imr;
@@ -20,8 +20,8 @@ static void put_chip(const struct chip *c, uint8_t *record) {
     memcpy(record + AM9519A_CHIP_MEMORY, c->memory, sizeof c->memory);
 }
 
-void model_image(const struct chain *s, uint8_t image[AM9519A_IMAGE]) {
-    memset(image, 0, AM9519A_HEAD);
+void model_image(const struct chain *s, uint8_t image[AM9519A_IMAGE_SIZE]) {
+    memset(image, 0, AM9519A_HEAD_SIZE);
     image[AM9519A_IMAGE_COUNT] = s->count;
     image[AM9519A_IMAGE_ENABLE_IN] = s->enable_in;
     image[AM9519A_IMAGE_IACK] = s->iack;
@@ -80,7 +80,7 @@ static int sound_response(const struct chain *s) {
 
 uint8_t model_read(struct chain *s, const uint8_t *image, size_t image_length) {
     struct chain got;
-    if (image_length != AM9519A_IMAGE) return AM9519A_REFUSED_CHAIN;
+    if (image_length != AM9519A_IMAGE_SIZE) return AM9519A_REFUSED_CHAIN;
     got.count = image[AM9519A_IMAGE_COUNT];
     got.enable_in = image[AM9519A_IMAGE_ENABLE_IN];
     got.iack = image[AM9519A_IMAGE_IACK];
@@ -92,8 +92,8 @@ uint8_t model_read(struct chain *s, const uint8_t *image, size_t image_length) {
     got.response.length = image[AM9519A_IMAGE_RESPONSE_LENGTH];
     got.response.delivered = image[AM9519A_IMAGE_RESPONSE_DELIVERED];
     if (got.enable_in > 1 || got.iack > 1 || got.response.under_way > 1) return AM9519A_REFUSED_CHAIN;
-    if (!got.response.under_way && !all_zero(image + AM9519A_IMAGE_RESPONSE_CHIP, image + AM9519A_HEAD)) return AM9519A_REFUSED_CHAIN;
-    if (!all_zero(image + AM9519A_IMAGE_RESPONSE_DELIVERED + 1, image + AM9519A_HEAD)) return AM9519A_REFUSED_CHAIN;
+    if (!got.response.under_way && !all_zero(image + AM9519A_IMAGE_RESPONSE_CHIP, image + AM9519A_HEAD_SIZE)) return AM9519A_REFUSED_CHAIN;
+    if (!all_zero(image + AM9519A_IMAGE_RESPONSE_DELIVERED + 1, image + AM9519A_HEAD_SIZE)) return AM9519A_REFUSED_CHAIN;
     for (unsigned i = 0; i < 8; i++)
         if (!get_chip(&got.chip[i], image + AM9519A_CHIP(i))) return AM9519A_REFUSED_CHAIN;
 

@@ -117,10 +117,10 @@ static uint8_t data_write(struct chip *c, uint8_t value) {
     case AM9519A_DESTINATION_IMR: c->imr = value; return AM9519A_ACCEPTED;
     case AM9519A_DESTINATION_ACR: c->acr = value; return AM9519A_ACCEPTED;
     case AM9519A_DESTINATION_LEVEL:
-        if (c->place > c->code[c->level]) return AM9519A_REFUSED_PLACE;
+        if (c->place > c->code[c->level]) return AM9519A_REFUSED_PAST_COUNT;
         c->memory[c->level][c->place++] = value;
         return AM9519A_ACCEPTED;
-    default: return AM9519A_REFUSED_DESTINATION;
+    default: return AM9519A_REFUSED_NO_DESTINATION;
     }
 }
 
@@ -191,10 +191,10 @@ uint8_t model_event(struct chain *s, const uint8_t event[4], uint8_t result[2]) 
     uint8_t out[2] = {0, 0}, refusal;
     if (kind < AM9519A_KIND_COMMAND || kind > AM9519A_KIND_RISE) return AM9519A_REFUSED_KIND;
     if (kind <= AM9519A_KIND_LINE && i >= s->count) return AM9519A_REFUSED_CHIP;
-    if (kind <= AM9519A_KIND_READ && !s->iack) return AM9519A_REFUSED_IACK_LOW;
+    if (kind <= AM9519A_KIND_READ && !s->iack) return AM9519A_REFUSED_BUS_IN_PULSE;
     switch (kind) {
     case AM9519A_KIND_COMMAND:
-        if (undefined(value)) return AM9519A_REFUSED_COMMAND;
+        if (undefined(value)) return AM9519A_REFUSED_UNDEFINED_COMMAND;
         command(s, i, value);
         break;
     case AM9519A_KIND_DATA:
@@ -219,11 +219,11 @@ uint8_t model_event(struct chain *s, const uint8_t event[4], uint8_t result[2]) 
         s->enable_in = value;
         break;
     case AM9519A_KIND_FALL:
-        if (!s->iack) return AM9519A_REFUSED_IACK;
+        if (!s->iack) return AM9519A_REFUSED_IACK_THERE;
         fall(s, out);
         break;
     case AM9519A_KIND_RISE:
-        if (s->iack) return AM9519A_REFUSED_IACK;
+        if (s->iack) return AM9519A_REFUSED_IACK_THERE;
         rise(s);
         break;
     }
@@ -236,7 +236,7 @@ uint8_t model_event(struct chain *s, const uint8_t event[4], uint8_t result[2]) 
 uint8_t model_run(struct chain *s, const uint8_t *events, size_t events_length, size_t limit, uint8_t *results, size_t results_length,
                   size_t *accepted) {
     size_t listed = events_length / 4, done = 0;
-    if (events_length % 4 != 0) return AM9519A_REFUSED_EVENTS;
+    if (events_length % 4 != 0) return AM9519A_REFUSED_EVENTS_LENGTH;
     if (results_length / 2 < listed) return AM9519A_REFUSED_ROOM;
     uint8_t refusal = AM9519A_ACCEPTED;
     while (done < listed && done < limit) {
@@ -261,7 +261,7 @@ static void put_event_number(const struct chain *s, uint8_t *low) {
 
 uint8_t model_registers(const struct chain *s, uint8_t chip, uint8_t *view, size_t view_length) {
     if (chip >= s->count) return AM9519A_REFUSED_CHIP;
-    if (view_length < AM9519A_REGISTERS) return AM9519A_REFUSED_ROOM;
+    if (view_length < AM9519A_REGISTERS_SIZE) return AM9519A_REFUSED_ROOM;
     const struct chip *c = &s->chip[chip];
     put_event_number(s, view);
     view[AM9519A_REGISTERS_IRR] = c->irr;
@@ -282,7 +282,7 @@ static uint8_t gint(const struct chip *c) {
 
 uint8_t model_pins(const struct chain *s, uint8_t chip, uint8_t *view, size_t view_length) {
     if (chip >= s->count) return AM9519A_REFUSED_CHIP;
-    if (view_length < AM9519A_PINS) return AM9519A_REFUSED_ROOM;
+    if (view_length < AM9519A_PINS_SIZE) return AM9519A_REFUSED_ROOM;
     unsigned ei = model_enable_in(s, chip);
     put_event_number(s, view);
     view[AM9519A_PINS_EI] = (uint8_t)ei;

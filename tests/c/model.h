@@ -62,7 +62,7 @@ uint8_t model_pins(const struct chain *s, uint8_t chip, uint8_t *view, size_t vi
 /* The chain from its image: refused if it has another length or form, or is not sound. */
 uint8_t model_read(struct chain *s, const uint8_t *image, size_t image_length);
 
-void model_image(const struct chain *s, uint8_t image[AM9519A_IMAGE]);
+void model_image(const struct chain *s, uint8_t image[AM9519A_IMAGE_SIZE]);
 
 /* The chip's candidate, NO_CHANNEL if it has none; the EI level of chip i. */
 unsigned model_candidate(const struct chip *c);

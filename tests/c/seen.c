@@ -113,7 +113,7 @@ void seen_event(const struct chain *before, const struct chain *after, const uin
     }
 }
 
-void seen_pins(const struct chip *c, const uint8_t pins[AM9519A_PINS]) {
+void seen_pins(const struct chip *c, const uint8_t pins[AM9519A_PINS_SIZE]) {
     unsigned high = c->mode & M_GINT_HIGH ? 1 : 0, pin = pins[AM9519A_PINS_GINT];
     gint_pin[high][pin]++;
     if (pin == high && !pins[AM9519A_PINS_EI]) seen(SEEN_GINT_BEYOND_ENABLE);

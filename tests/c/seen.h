@@ -53,7 +53,7 @@ void seen_refusal(uint8_t refusal);
 
 /* What there is to see in one event, and in the pins after it. */
 void seen_event(const struct chain *before, const struct chain *after, const uint8_t event[4]);
-void seen_pins(const struct chip *c, const uint8_t pins[AM9519A_PINS]);
+void seen_pins(const struct chip *c, const uint8_t pins[AM9519A_PINS_SIZE]);
 
 /* Names what is missing, and tells how much. */
 int seen_missing(void);
