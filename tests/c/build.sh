@@ -12,7 +12,7 @@
 
 archive=target/staticlib/libam9519a.a
 out=target/c
-strict='-std=c11 -O2 -Wall -Wextra -Wconversion -Werror -Iinclude -Itests/c'
+strict='-std=c11 -O2 -Wall -Wextra -Wpedantic -Wconversion -Werror -Iinclude -Itests/c'
 sanitizers='-g -fsanitize=address,undefined -fno-sanitize-recover=all'
 
 mkdir -p "$out"
