@@ -1,7 +1,8 @@
 /*
  * The picture and the table of one state, for a chain of two chips.
  *
- * Chip 1 has its channel 5 requested and unmasked, and drives the first byte of its response: IACK is low, RIP is low.
+ * Chip 1 has its channel 5 requested and unmasked, and drives the first byte of its response: IACK is low, RIP is low. A status read is
+ * then refused, and what is printed says why.
  */
 #include "am9519a.h"
 
@@ -22,10 +23,13 @@ static const uint8_t events[] = {
 };
 #define LISTED (sizeof events / AM9519A_EVENT_SIZE)
 
-/* Tells of a refusal, and whether there was one. */
-static int refused(const char *call, unsigned number) {
-    if (number != AM9519A_ACCEPTED) printf("%s refused %u\n", call, number);
-    return number != AM9519A_ACCEPTED;
+/* Tells of a refusal, in words too, and whether there was one. */
+static int refused(const char *call, uint8_t number) {
+    char text[AM9519A_MEANING_SIZE];
+    if (number == AM9519A_ACCEPTED) return 0;
+    size_t length = am9519a_meaning(number, text, sizeof text);
+    printf("%s refused %u: %.*s\n", call, number, (int)length, text);
+    return 1;
 }
 
 static unsigned number_at(const uint8_t *low) { return low[0] + 256u * low[1]; }
@@ -51,23 +55,20 @@ static int print_registers(const uint8_t *image, uint8_t chip) {
 
 int main(void) {
     uint8_t image[AM9519A_IMAGE_SIZE], results[LISTED * AM9519A_RESULT_SIZE];
-    size_t accepted;
+    /* A refusal of the image, the lengths or the room comes before any event, and leaves this as it is. */
+    size_t accepted = 0;
 
     if (refused("start", am9519a_start(CHIPS, 0, image, sizeof image))) return 1;
-    /* A refusal of the image, the lengths or the room comes before any event, and leaves *accepted as it was. */
-    accepted = 0;
-    unsigned number = am9519a_run(image, sizeof image, events, sizeof events, SIZE_MAX, results, sizeof results, &accepted);
-    if (number == AM9519A_REFUSED_CHAIN || number == AM9519A_REFUSED_EVENTS_LENGTH || number == AM9519A_REFUSED_ROOM) {
-        printf("run refused %u\n", number);
-        return 1;
-    }
-    if (number != AM9519A_ACCEPTED) {
-        printf("event %zu refused %u\n", accepted + 1, number);
+    if (refused("run", am9519a_run(image, sizeof image, events, sizeof events, SIZE_MAX, results, sizeof results, &accepted))) {
+        printf("%zu events were accepted\n", accepted);
         return 1;
     }
     for (size_t k = 0; k < accepted; k++)
         if (results[2 * k]) printf("event %zu byte %02X\n", k + 1, results[2 * k + 1]);
     for (uint8_t chip = 0; chip < CHIPS; chip++)
         if (print_pins(image, chip) || print_registers(image, chip)) return 1;
+    /* One event as one call: no bus access while IACK is low. Image and result stay as they were. */
+    uint8_t status[AM9519A_RESULT_SIZE];
+    if (!refused("status", am9519a_event(image, sizeof image, AM9519A_KIND_STATUS, 1, 0, 0, status))) return 1;
     return 0;
 }
