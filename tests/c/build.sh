@@ -14,6 +14,8 @@ archive=target/staticlib/libam9519a.a
 out=target/c
 strict='-std=c11 -O2 -Wall -Wextra -Wpedantic -Wconversion -Werror -Iinclude -Itests/c'
 sanitizers='-g -fsanitize=address,undefined -fno-sanitize-recover=all'
+# No program here allocates, and the search for leaks at a program's end can take seconds.
+export ASAN_OPTIONS=detect_leaks=0
 
 mkdir -p "$out"
 # The archive is made anew where there is none, or where a crate has changed since.
