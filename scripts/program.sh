@@ -54,9 +54,9 @@ program() { # NAME ARGUMENT..
         exit 0
         ;;
     --) shift ;;
-    -?*) complain "$1 is no option; $name --help tells how it is called" ;;
+    -?*) complain "$1 is no option; $0 --help tells how it is called" ;;
     esac
-    [ $# -le 1 ] || complain "one file at most; $name --help tells how it is called"
+    [ $# -le 1 ] || complain "one file at most; $0 --help tells how it is called"
     file=${1--}
     if [ "$file" != - ]; then
         [ -e "$file" ] || complain "$file: there is no such file"
@@ -67,7 +67,7 @@ program() { # NAME ARGUMENT..
     [ "$file" = - ] || exec <"$file"
 
     # What is printed goes straight to standard output; what is said on standard error is kept, shown, and made into the status.
-    { : >&3; } 3>&1 2>/dev/null || complain 'standard output is closed'
+    { : >&3; } 2>/dev/null 3>&1 || complain 'standard output is closed'
     exec 3>&1
     died=0
     said=$(execute 2>&1 >&3 3>&-) || died=$?

@@ -10,7 +10,7 @@ use Rattle.text.specs.Written.{text}
 abbrev pub sentences : List ℕ
 sentences =
     text "accepted\n"
-    ++ text "not a sound chain: a count of chips outside 1 to 8, or an image of another length or form or with a number out of its range; start one of 1 to 8 chips\n"
+    ++ text "not a sound chain: a count of chips outside 1 to 8, or from C an image of another length or form or with a number out of range; start one of 1 to 8 chips\n"
     ++ text "no such chip: the first is 0 and the last is one below the count; name a chip of this chain\n"
     ++ text "no such channel: a chip has the channels 0 to 7; name one of these\n"
     ++ text "no such level: a pin is at 0 or at 1; give one of these\n"

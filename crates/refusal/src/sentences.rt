@@ -9,9 +9,9 @@ use text::tables::line_in;
 use text::tables::put_line;
 
 // The sentences, each in the line of its number, from 0; the last line is for a number that is none.
-const SENTENCES: [u8; 1317] = *b"\
+const SENTENCES: [u8; 1320] = *b"\
     accepted\n\
-    not a sound chain: a count of chips outside 1 to 8, or an image of another length or form or with a number out of its range; start one of 1 to 8 chips\n\
+    not a sound chain: a count of chips outside 1 to 8, or from C an image of another length or form or with a number out of range; start one of 1 to 8 chips\n\
     no such chip: the first is 0 and the last is one below the count; name a chip of this chain\n\
     no such channel: a chip has the channels 0 to 7; name one of these\n\
     no such level: a pin is at 0 or at 1; give one of these\n\

@@ -24,7 +24,7 @@ nothing = (refl, refl)
 
 -- nine chips are refused, and a byte of three digits is none
 stopped :
-    (pagesOf (text "start 9 0\nfall") ≡ text "at 1 start 9 00 refused 1: not a sound chain: a count of chips outside 1 to 8, or an image of another length or form or with a number out of its range; start one of 1 to 8 chips\n")
+    (pagesOf (text "start 9 0\nfall") ≡ text "at 1 start 9 00 refused 1: not a sound chain: a count of chips outside 1 to 8, or from C an image of another length or form or with a number out of range; start one of 1 to 8 chips\n")
     × (pagesOf (text "start 1 A5F")
     ≡ text "at 1 malformed: A5F, expected FILL (the byte in the response memory at power-up, one or two hex digits), as in: start COUNT FILL\n")
 unfolding pagesOf atFirst closed lastReply reply lineReply stepReply startOf stepOf stepIn readAs readBy stepFrom behindArgument nameOf kindOf placeIn lineEnd word behind wordStart wordEnd decimalIn hexIn slot help malformedLine refusedLine foundIn spelled meaningOf decimal hexByte

@@ -1,3 +1,4 @@
 pub mod Kinds
 pub mod Lines
+pub mod OneSpelling
 pub mod Spelled

@@ -2,6 +2,7 @@ pub mod Decimal
 pub mod Fits
 pub mod InOtherForm
 pub mod Places
+pub mod ReadBack
 pub mod Reading
 pub mod Tried
 pub mod WordPlaces
