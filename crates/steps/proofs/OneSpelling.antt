@@ -14,7 +14,7 @@ use Rattle.event.specs.Numbers.{numbered, inNumbers}
 use Rattle.event.specs.declared.Event.{Event}
 use Rattle.event.specs.declared.Event.the-variants.{Command, Data, Status, Read, Line, Enable, Fall, Rise}
 use Rattle.event.specs.declared.Numbered.{Numbered}
-use Rattle.text.proofs.ReadBack.{each, each-append, each-at, plainByte, plain, word-back, rest-back, decimal-back, hex-back}
+use Rattle.text.proofs.ReadBack.{each, each-append, each-at, plainByte, plain, decimal-back, hex-back, number-back}
 use Rattle.text.specs.Tables.{placeIn}
 use Rattle.text.specs.Words.{isLetter, lead, lineEnd, wordStart, wordEnd, word, behind, decimalIn, hexIn}
 use Rattle.text.specs.Written.{joined, decimal, hexByte}
@@ -48,26 +48,15 @@ Taken End n = n ≡ 0
 abbrev Reads : Argument → ℕ → List ℕ → Type 0
 Reads a n rest = (valueOf a (word (spelledAs a n ++ rest)) ≡ Value n) × (behindArgument a (spelledAs a n ++ rest) ≡ rest)
 
--- in decimal and in hex
-decimal-read : (n : ℕ) (rest : List ℕ) → n ≤ 255 → lead Letter rest ≡ 0 → (decimalIn (word (32 ∷ (decimal n ++ rest))) ≡ Value n) × (drop (wordEnd (32 ∷ (decimal n ++ rest))) (32 ∷ (decimal n ++ rest)) ≡ rest)
-decimal-read n rest h none =
-    let back = decimal-back n h in
-    (ap decimalIn (word-back (decimal n) rest (back .0) none) ∙ back .1, rest-back (decimal n) rest (back .0) none)
-
-hex-read : (n : ℕ) (rest : List ℕ) → n ≤ 255 → lead Letter rest ≡ 0 → (hexIn (word (32 ∷ (hexByte n ++ rest))) ≡ Value n) × (drop (wordEnd (32 ∷ (hexByte n ++ rest))) (32 ∷ (hexByte n ++ rest)) ≡ rest)
-hex-read n rest h none =
-    let back = hex-back n h in
-    (ap hexIn (word-back (hexByte n) rest (back .0) none) ∙ back .1, rest-back (hexByte n) rest (back .0) none)
-
 argument-read : (a : Argument) (n : ℕ) (rest : List ℕ) → Taken a n → lead Letter rest ≡ 0 → Reads a n rest
 unfolding behindArgument
-argument-read Count n rest h none = decimal-read n rest h none
-argument-read Fill n rest h none = hex-read n rest h none
-argument-read Chip n rest h none = decimal-read n rest h none
-argument-read Code n rest h none = hex-read n rest h none
-argument-read Byte n rest h none = hex-read n rest h none
-argument-read Channel n rest h none = decimal-read n rest h none
-argument-read Level n rest h none = decimal-read n rest h none
+argument-read Count n rest h none = number-back decimal decimalIn n rest (decimal-back n h) none
+argument-read Fill n rest h none = number-back hexByte hexIn n rest (hex-back n h) none
+argument-read Chip n rest h none = number-back decimal decimalIn n rest (decimal-back n h) none
+argument-read Code n rest h none = number-back hexByte hexIn n rest (hex-back n h) none
+argument-read Byte n rest h none = number-back hexByte hexIn n rest (hex-back n h) none
+argument-read Channel n rest h none = number-back decimal decimalIn n rest (decimal-back n h) none
+argument-read Level n rest h none = number-back decimal decimalIn n rest (decimal-back n h) none
 argument-read End n rest h none = (ap Value (sym h), refl)
 
 -- an argument begins with a blank, or is none

@@ -10,6 +10,7 @@ use lib.Dec.{eqb, ltb}
 use lib.ListN.{length, getD, take, drop}
 use lib.Seq.{take-at, drop-at}
 use Rattle.bits.proofs.Below.{both-left, both-right, every-each}
+use Rattle.bits.specs.Below.{every}
 use Rattle.text.specs.Words.{isBlank, isLetter, lead, wordStart, wordEnd, word, behind, decimalIn, hexIn}
 use Rattle.text.specs.Written.{decimal, hexByte}
 use Rattle.text.specs.declared.Number.{Number}
@@ -67,7 +68,7 @@ ends-there w rest ok none =
     ∙ more
 
 -- a word behind a blank, and what is behind it
-pub word-back : (w rest : List ℕ) → plain w ≡ true → lead Letter rest ≡ 0 → word (32 ∷ (w ++ rest)) ≡ w
+word-back : (w rest : List ℕ) → plain w ≡ true → lead Letter rest ≡ 0 → word (32 ∷ (w ++ rest)) ≡ w
 unfolding word
 word-back w rest ok none =
     let long : wordEnd (32 ∷ (w ++ rest)) - 1 ≡ length w = omega (arith, ends-there w rest ok none) in
@@ -75,10 +76,10 @@ word-back w rest ok none =
     ∙ ap (λ (n : ℕ). take n (w ++ rest)) long
     ∙ take-at w rest (length w) refl
 
-pub rest-back : (w rest : List ℕ) → plain w ≡ true → lead Letter rest ≡ 0 → drop (wordEnd (32 ∷ (w ++ rest))) (32 ∷ (w ++ rest)) ≡ rest
+rest-back : (w rest : List ℕ) → plain w ≡ true → lead Letter rest ≡ 0 → drop (wordEnd (32 ∷ (w ++ rest))) (32 ∷ (w ++ rest)) ≡ rest
 rest-back w rest ok none = ap (λ (n : ℕ). drop n (32 ∷ (w ++ rest))) (ends-there w rest ok none) ∙ drop-at w rest (length w) refl
 
--- a number in decimal and a byte in hex, computed for each of the 256: a plain word, which says the number
+-- a number that is written is a plain word that says it; computed for each of the 256
 abbrev gives : Number → ℕ → Bool
 gives (Value value) n = eqb value n
 gives Wrong n = false
@@ -90,14 +91,28 @@ gives-it Wrong n is = absurd (false≢true is)
 abbrev reads : (ℕ → List ℕ) → (List ℕ → Number) → ℕ → Bool
 reads write read n = plain (write n) && gives (read (write n)) n
 
-pub decimal-back : (n : ℕ) → n ≤ 255 → (plain (decimal n) ≡ true) × (decimalIn (decimal n) ≡ Value n)
-unfolding decimal decimalIn
-decimal-back n h =
-    let ok = every-each 256 (reads decimal decimalIn) refl n (omega (arith, h)) in
-    (both-left (plain (decimal n)) (gives (decimalIn (decimal n)) n) ok, gives-it (decimalIn (decimal n)) n (both-right (plain (decimal n)) (gives (decimalIn (decimal n)) n) ok))
+-- so a number that is written is a plain word, and is read
+abbrev pub Back : (ℕ → List ℕ) → (List ℕ → Number) → ℕ → Type 0
+Back write read n = (plain (write n) ≡ true) × (read (write n) ≡ Value n)
 
-pub hex-back : (n : ℕ) → n ≤ 255 → (plain (hexByte n) ≡ true) × (hexIn (hexByte n) ≡ Value n)
+back : (write : ℕ → List ℕ) (read : List ℕ → Number) → every 256 (reads write read) ≡ true → (n : ℕ) → n ≤ 255 → Back write read n
+back write read each-is n h =
+    let ok = every-each 256 (reads write read) each-is n (omega (arith, h)) in
+    (both-left (plain (write n)) (gives (read (write n)) n) ok, gives-it (read (write n)) n (both-right (plain (write n)) (gives (read (write n)) n) ok))
+
+pub decimal-back : (n : ℕ) → n ≤ 255 → Back decimal decimalIn n
+unfolding decimal decimalIn
+decimal-back n h = back decimal decimalIn refl n h
+
+pub hex-back : (n : ℕ) → n ≤ 255 → Back hexByte hexIn n
 unfolding hexByte hexIn
-hex-back n h =
-    let ok = every-each 256 (reads hexByte hexIn) refl n (omega (arith, h)) in
-    (both-left (plain (hexByte n)) (gives (hexIn (hexByte n)) n) ok, gives-it (hexIn (hexByte n)) n (both-right (plain (hexByte n)) (gives (hexIn (hexByte n)) n) ok))
+hex-back n h = back hexByte hexIn refl n h
+
+-- behind a blank, with a rest behind it: the number, and the rest
+pub number-back :
+    (write : ℕ → List ℕ) (read : List ℕ → Number) (n : ℕ) (rest : List ℕ)
+    → Back write read n
+    → lead Letter rest ≡ 0
+    → (read (word (32 ∷ (write n ++ rest))) ≡ Value n) × (drop (wordEnd (32 ∷ (write n ++ rest))) (32 ∷ (write n ++ rest)) ≡ rest)
+number-back write read n rest is none =
+    (ap read (word-back (write n) rest (is .0) none) ∙ is .1, rest-back (write n) rest (is .0) none)
