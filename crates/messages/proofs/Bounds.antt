@@ -1,6 +1,6 @@
 -- How long a message may be.
 -- Assumes nothing.
-use mathlib.Core.Bool.{Bool, true, false, cond, not, _&&_}
+use mathlib.Core.Bool.{Bool, true, false, cond}
 use mathlib.Core.List.{List, []}
 use Prim.Native.Nat.{ℕ, _≤_}
 use native.Mathlib.Omega.{arith}
@@ -10,7 +10,7 @@ use Rattle.event.specs.declared.Numbered.{Numbered}
 use Rattle.refusal.proofs.EverySentence.{every-sentence}
 use Rattle.refusal.specs.Numbers.{refusalNumber}
 use Rattle.refusal.specs.declared.Refusal.{Refusal}
-use Rattle.messages.specs.Messages.{refusedParts, refusedLine, slots, slot, helps, help, formParts, wantedParts, expectedParts, foundText, hasMark, has0x, nameHint, hint, malformedParts, malformedLine}
+use Rattle.messages.specs.Messages.{refusedParts, refusedLine, slots, slot, helps, help, formParts, wantedParts, expectedParts, foundText, hasMark, has0x, nameHint, numberHints, hint, malformedParts, malformedLine}
 use Rattle.steps.proofs.Bounds.{name-le, spelled-le}
 use Rattle.steps.specs.Kinds.{inCapitals, formOf, argumentNumber}
 use Rattle.steps.specs.declared.Argument.{Argument}
@@ -21,6 +21,7 @@ use Rattle.text.proofs.Fits.{joined-le, joined-total, field-le}
 use Rattle.text.proofs.InOtherForm.{length-cast}
 use Rattle.text.proofs.Places.{line-le}
 use Rattle.text.specs.Cast.{cast}
+use Rattle.text.specs.Tables.{lineIn}
 use Rattle.text.specs.Written.{text, joined, field}
 use Rattle.text.specs.declared.Way.the-variants.{Shown}
 
@@ -68,13 +69,14 @@ name-hint-le : (found : List ℕ) → length (nameHint found) ≤ 80
 name-hint-le found =
     one-of 80 (hasMark found) _ _ (omega arith) (one-of 80 (inCapitals found) _ [] (omega arith) (omega arith))
 
-hint-le : (e : Expected) (found : List ℕ) → length (hint e found) ≤ 80
+hint-le : (e : Expected) (found : List ℕ) → length (hint e found) ≤ 256
 hint-le Shorter found = omega arith
-hint-le TheStart found = name-hint-le found
-hint-le AnEvent found = name-hint-le found
-hint-le (Wanted kind argument) found = one-of 80 (not (eqb (argumentNumber argument) 7) && has0x found) _ [] (omega arith) (omega arith)
+hint-le TheStart found = omega (arith, name-hint-le found)
+hint-le AnEvent found = omega (arith, name-hint-le found)
+hint-le (Wanted kind argument) found =
+    one-of 256 (has0x found) (lineIn (argumentNumber argument) numberHints) [] (omega (arith, line-le (argumentNumber argument) numberHints)) (omega arith)
 
-pub malformed-le : (line : ℕ) (e : Expected) (found : List ℕ) → length (malformedLine line e found) ≤ 1024
+pub malformed-le : (line : ℕ) (e : Expected) (found : List ℕ) → length (malformedLine line e found) ≤ 1280
 unfolding malformedLine
 malformed-le line e found =
     omega (arith, joined-total (malformedParts line e found), field-le "at " line (omega arith), found-le found, expected-le e, hint-le e found)

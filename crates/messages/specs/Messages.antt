@@ -1,5 +1,5 @@
 -- What is said where a list ends before its last line: a refusal, or what stood there and what should have.
-use mathlib.Core.Bool.{Bool, cond, not, _&&_, _||_}
+use mathlib.Core.Bool.{Bool, cond, _||_}
 use mathlib.Core.List.{List, [], _∷_, _++_}
 use Prim.Native.Nat.{ℕ}
 use lib.Dec.{eqb}
@@ -90,8 +90,19 @@ nameHint found =
     (cond (inCapitals found) (text "; names are written in small letters")
     [])
 
+-- by the argument, in the line of its number; where the line should have ended, nothing
+abbrev pub numberHints : List ℕ
+numberHints =
+    text "; write it in decimal, without 0x\n"
+    ++ text "; write the digits alone, without 0x\n"
+    ++ text "; write it in decimal, without 0x\n"
+    ++ text "; write the digits alone, without 0x\n"
+    ++ text "; write the digits alone, without 0x\n"
+    ++ text "; write it in decimal, without 0x\n"
+    ++ text "; write it in decimal, without 0x\n"
+
 abbrev pub numberHint : Argument → List ℕ → List ℕ
-numberHint argument found = cond (not (eqb (argumentNumber argument) 7) && has0x found) (text "; write the digits alone, without 0x") []
+numberHint argument found = cond (has0x found) (lineIn (argumentNumber argument) numberHints) []
 
 abbrev pub hint : Expected → List ℕ → List ℕ
 hint Shorter found = []

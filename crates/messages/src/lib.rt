@@ -34,6 +34,16 @@ const HELPS: [u8; 318] = *b"\
     \x20(a level, 0 or 1)\n\
     \x20the end of the line, or a comment with #";
 
+// What helps with a number that has 0x before it, each in the line of its argument's number; with the end of a line nothing does.
+const NUMBER_HINTS: [u8; 247] = *b"\
+    ; write it in decimal, without 0x\n\
+    ; write the digits alone, without 0x\n\
+    ; write it in decimal, without 0x\n\
+    ; write the digits alone, without 0x\n\
+    ; write the digits alone, without 0x\n\
+    ; write it in decimal, without 0x\n\
+    ; write it in decimal, without 0x\n";
+
 // at L STEP refused R: and what the number says.
 pub fn put_refused(to: &mut [u8], at: usize, line: u64, step: Numbered, why: Refusal) -> usize
     ensures { λ r. ⌜ (now (to .exit), r) ≡ written (now (to .entry), at) (refusedLine line step why) ⌝ }
@@ -103,8 +113,8 @@ fn put_name_hint(to: &mut [u8], at: usize, found: &[u8]) -> usize
 fn put_number_hint(to: &mut [u8], at: usize, argument: Argument, found: &[u8]) -> usize
     ensures { λ r. ⌜ (now (to .exit), r) ≡ written (now (to .entry), at) (numberHint argument (now (found .entry))) ⌝ }
 {
-    if (argument.number() != 7) & has_0x(found) {
-        put(to, at, b"; write the digits alone, without 0x")
+    if has_0x(found) {
+        put_line(to, at, &NUMBER_HINTS, argument.number())
     } else {
         at
     }

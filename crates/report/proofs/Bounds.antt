@@ -39,7 +39,7 @@ pub reply-le : (line : List ℕ) (r : Report) → length (reply line r .print) �
 unfolding reply
 reply-le line r = replied-le (stepOf (r .started) line) line r
 
-lacking-le : (started : Bool) (line : ℕ) → length (lacking started line) ≤ 1024
+lacking-le : (started : Bool) (line : ℕ) → length (lacking started line) ≤ 1280
 lacking-le true line = omega arith
 lacking-le false line = malformed-le line TheStart []
 

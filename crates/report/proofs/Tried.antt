@@ -33,7 +33,7 @@ stopped = (refl, refl)
 -- the word that was found, and what may help: 0x, capitals, a byte order mark; a word of 41 letters is shown without its last
 hinted :
     (pagesOf (text "start 0x1 00")
-    ≡ text "at 1 malformed: 0x1, expected COUNT (how many chips, decimal, 1 to 8), as in: start COUNT FILL; write the digits alone, without 0x\n")
+    ≡ text "at 1 malformed: 0x1, expected COUNT (how many chips, decimal, 1 to 8), as in: start COUNT FILL; write it in decimal, without 0x\n")
     × (pagesOf (text "Start 1 00")
     ≡ text "at 1 malformed: Start, expected the first step of a list, start COUNT FILL: how many chips (decimal, 1 to 8) and the byte in the response memory at power-up (hex)"
     ++ text "; names are written in small letters\n")
