@@ -77,20 +77,22 @@ expectedParts (Wanted kind argument) = wantedParts kind argument
 abbrev pub foundText : List ℕ → List ℕ
 foundText found = cond (eqb (length found) 0) (text "(no word)") (cast Shown (take 40 found))
 
--- what may help: a byte order mark (EF BB BF, or FF FE or FE FF) or capitals where a name should be, 0x where a number should be
+-- a byte order mark stands before it: EF BB BF, or FF FE or FE FF
 abbrev pub hasMark : List ℕ → Bool
 hasMark found = begins (0xEF ∷ 0xBB ∷ 0xBF ∷ []) found || begins (0xFF ∷ 0xFE ∷ []) found || begins (0xFE ∷ 0xFF ∷ []) found
 
+-- it is written as some languages write hex
 abbrev pub has0x : List ℕ → Bool
 has0x found = begins (text "0x") found || begins (text "0X") found
 
+-- what may help where a name should have stood
 abbrev pub nameHint : List ℕ → List ℕ
 nameHint found =
     cond (hasMark found) (text "; a byte order mark stands before it: save the list as plain text, without one")
     (cond (inCapitals found) (text "; names are written in small letters")
     [])
 
--- by the argument, in the line of its number; where the line should have ended, nothing
+-- and where a number should have: for COUNT, FILL, CHIP, CODE, BYTE, CHANNEL and LEVEL, each in the line of its number; where the line should have ended, none
 abbrev pub numberHints : List ℕ
 numberHints =
     text "; write it in decimal, without 0x\n"
