@@ -1,2 +1,3 @@
 pub mod EverySentence
 pub mod Numbers
+pub mod Tried

@@ -1,3 +1,4 @@
 pub mod Bounds
 pub mod Cuts
 pub mod OneSpelling
+pub mod Tried
