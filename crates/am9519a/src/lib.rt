@@ -1,5 +1,7 @@
 // The C interface: what the report generator, written in C, calls. include/am9519a.h declares it.
 // Every function takes any numbers and any bytes, and answers each: none has a `requires`. What C has to keep of its pointers: docs/C.md.
+#![tactic(auto)]
+
 mod shown;
 
 ghost use Rattle.std.specs.Prelude.{◌≡◌};

@@ -1,8 +1,10 @@
 // A bench case under way: one chain, and whether every step so far went as the paper says. For the program `cases`; it promises nothing but to end.
+#![tactic(auto)]
+
 use chain::{Chain, Outcome};
 use views::{PinView, RegisterView, pin_view, register_view};
 
-#[derive(Drop)]
+#[derive(Clone, Copy)]
 pub struct Bench {
     pub chain: Chain,
     pub held: bool,

@@ -1,5 +1,7 @@
 // A byte as eight channels: is a bit set, the byte with one bit set or cleared, and how many requests wait. And a level as a number.
 // Every call is answered for every byte and every bit number: a byte has bits 0 to 7, and another one is never set and never changes.
+#![tactic(auto)]
+
 ghost use Rattle.std.specs.Prelude.{◌≡◌, ◌≤◌};
 ghost use Rattle.bits.specs.Below.{digit};
 ghost use Rattle.bits.specs.Byte.{bit, with_bit, without_bit, waiting};

@@ -1,6 +1,8 @@
 // One to eight chained Am9519A chips: the chain's record, and the eight events, each of which takes the chain and hands back a new one by value.
 // The records stand here. The public calls are in start.rt, calls.rt (the eight events) and sound.rt; they take every input. apply.rt shows an event what it looks at
 // and applies what is decided; levels.rt has the pins.
+#![tactic(auto)]
+
 mod apply;
 mod calls;
 mod fields;
@@ -13,7 +15,7 @@ use refusal::Answer;
 use response::Response;
 
 // The chain: chip 0 first; records past the count are never changed. A level is true where it is high.
-#[derive(Drop)]
+#[derive(Clone, Copy)]
 pub struct Chain {
     pub count: u8,
     pub chips: [Chip; 8],
@@ -24,7 +26,7 @@ pub struct Chain {
 }
 
 // The answer, and the chain handed back.
-#[derive(Drop)]
+#[derive(Clone, Copy)]
 pub struct Outcome {
     pub answer: Answer,
     pub chain: Chain,

@@ -1,6 +1,8 @@
 // One Am9519A: its record, what each command of Figure 4 does to it, and what else happens inside a single chip.
 // The records stand here, and what is done with them in a module for each page of specs/. A method that asks for a sound chip, a row of
 // Figure 4 or an index in range is for the chain's events, which have checked that; the chain's public calls ask for nothing.
+#![tactic(auto)]
+
 mod acknowledge;
 mod commands;
 mod data;
@@ -11,7 +13,7 @@ mod sound;
 mod status;
 
 // Where data writes go: nowhere, IMR, ACR, or a response level with the next place of it.
-#[derive(Drop)]
+#[derive(Clone, Copy)]
 pub enum Destination {
     Nowhere,
     Imr,
@@ -20,7 +22,7 @@ pub enum Destination {
 }
 
 // The registers of a chip (document 01, "A chip"). The response memory is flat: level * 4 + place.
-#[derive(Drop)]
+#[derive(Clone, Copy)]
 pub struct Chip {
     pub irr: u8,
     pub isr: u8,

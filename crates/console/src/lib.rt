@@ -1,10 +1,12 @@
 // What the programs share: standard input line by line, in pieces, so that memory does not grow with it; standard output; and what is told on standard error.
 // These are steps of programs, over the C library's read and write: they are proved to be safe and to end, and no more.
+#![tactic(auto)]
+
 use text::put::put;
 use text::words::{first, line_end};
 
 // What a step of reading has come to: nothing yet, a whole line, the end of the input behind the last line, or a failure, which has been told.
-#[derive(Drop)]
+#[derive(Clone, Copy)]
 pub enum Reached {
     Nothing,
     Line,
@@ -13,7 +15,7 @@ pub enum Reached {
 }
 
 // How far the reading has come: how much of the next line has been put together, and how many bytes of the piece, the last ones before a place, are left.
-#[derive(Drop)]
+#[derive(Clone, Copy)]
 pub struct Input {
     pub filled: usize,
     pub left: usize,

@@ -1,5 +1,7 @@
 // What an event does, worked out once from what it looks at: which refusal meets it, or what it answers and changes. Whoever holds the chain, in whatever form,
 // shows an event what it looks at and applies what is decided.
+#![tactic(auto)]
+
 mod changes;
 mod looks;
 mod pulse;
@@ -10,7 +12,7 @@ use refusal::Answer;
 use response::Response;
 
 // Where an event looks, beside the chain's own fields.
-#[derive(Drop)]
+#[derive(Clone, Copy)]
 pub enum Look {
     // At no chip.
     Nowhere,
@@ -23,7 +25,7 @@ pub enum Look {
 }
 
 // What an event looks at: the chain's own fields, and a chip with its number; the count where there is no such chip.
-#[derive(Drop)]
+#[derive(Clone, Copy)]
 pub struct Seen {
     pub count: u8,
     pub enable: bool,
@@ -36,7 +38,7 @@ pub struct Seen {
 }
 
 // What an accepted event does: its answer; the chip that it replaces, if it replaces one, and by what; and the chain's own fields, if it sets them.
-#[derive(Drop)]
+#[derive(Clone, Copy)]
 pub struct Change {
     pub answer: Answer,
     pub replaces: bool,

@@ -1,11 +1,13 @@
 // The eight events; the four numbers that stand for each in a list: kind 1 to 8, chip, channel, value; unused ones are ignored; and the event number, which counts them.
 // The one crate that lists all of them beside what each does (`decide`) and what each is called (`steps`).
+#![tactic(auto)]
+
 ghost use Rattle.std.specs.Prelude.{◌≡◌};
 ghost use Rattle.event.specs.Counting.{next_number};
 ghost use Rattle.event.specs.Numbers.{listed, in_numbers};
 
 // The eight events, in the order of their kinds 1 to 8.
-#[derive(Drop)]
+#[derive(Clone, Copy)]
 pub enum Event {
     // Chip and code.
     Command(u8, u8),
@@ -21,14 +23,14 @@ pub enum Event {
 }
 
 // What four numbers of a list are: one of the eight events, or a kind outside 1 to 8.
-#[derive(Drop)]
+#[derive(Clone, Copy)]
 pub enum Listed {
     Known(Event),
     Unknown,
 }
 
 // Four numbers.
-#[derive(Drop)]
+#[derive(Clone, Copy)]
 pub struct Numbered {
     pub kind: u8,
     pub chip: u8,

@@ -1,9 +1,11 @@
 // Figure 4 of the data sheet: the commands, and what a command code means. What a command does to a chip is `chip`'s.
+#![tactic(auto)]
+
 ghost use Rattle.std.specs.Prelude.{◌≡◌};
 ghost use Rattle.figure4.specs.Figure4.{figure4, is_reset, reset_or_undefined, all_or_one, load_read, undefined};
 
 // The rows of Figure 4, in its order. A number is the row's B2 B1 B0, M4 to M0, M6 M5, or BY1 BY0 and L2 L1 L0.
-#[derive(Drop)]
+#[derive(Clone, Copy)]
 pub enum Command {
     Reset,
     ClearIrrAndImr,
@@ -29,7 +31,7 @@ pub enum Command {
 }
 
 // The undefined codes, which are of three kinds: 01 to 0F hex, 1010xx11 binary, and D0 to DF hex.
-#[derive(Drop)]
+#[derive(Clone, Copy)]
 pub enum Undefined {
     Codes01To0F,
     Codes1010xx11,
@@ -37,7 +39,7 @@ pub enum Undefined {
 }
 
 // What a command code means: a row of Figure 4, or nothing.
-#[derive(Drop)]
+#[derive(Clone, Copy)]
 pub enum Meaning {
     Row(Command),
     Undefined(Undefined),

@@ -1,5 +1,7 @@
 // The chain image: a chain as 528 bytes that a caller owns and lends, as C can hold it. Reading it, writing it, and which bytes are one.
 // What asks for a length is for whoever has seen that; `is_image` takes any bytes.
+#![tactic(auto)]
+
 mod form;
 pub mod places;
 pub mod reading;

@@ -1,6 +1,8 @@
 // The eight events on an image where it lies: an event is shown what it looks at, and what is decided is applied there, so that no chain is copied from event to event.
 // No rule stands here: where an event looks, its tests and its change are decide's.
 // `on` is for a run, which has seen that the bytes are an image and its chain is sound.
+#![tactic(auto)]
+
 mod events;
 
 ghost use Rattle.std.specs.Prelude.{true, ◌≡◌};

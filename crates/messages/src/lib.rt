@@ -1,4 +1,6 @@
 // What ends a report before the list's end: a refusal, or what stood in a line and what should have.
+#![tactic(auto)]
+
 ghost use Rattle.std.specs.Prelude.{◌≡◌};
 ghost use Rattle.messages.specs.Messages.{refused_line, slot, help, form_parts, wanted_parts, expected_parts, found_text, has_mark, has0x, name_hint, number_hint, hint, malformed_line};
 ghost use Rattle.steps.specs.Kinds.{form_of};

@@ -1,5 +1,7 @@
 // An order of a chip's eight channels, and the first set channel of a byte in it.
 // An order is known by the channel that ends it. No call asks anything of its caller: that channel counts modulo 8.
+#![tactic(auto)]
+
 ghost use Rattle.std.specs.Prelude.{◌≡◌};
 ghost use Rattle.order.specs.Order.{channel_at, first_channel};
 

@@ -1,5 +1,7 @@
 // What a page says of a state: the event with its step, and for each chip in the count the line of its pins and the line of its registers, all with one event number.
 // A page is written into a lent buffer. The page stands here, its lines in lines.rt.
+#![tactic(auto)]
+
 mod lines;
 
 ghost use Rattle.std.specs.Prelude.{◌≡◌};

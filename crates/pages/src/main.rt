@@ -1,5 +1,7 @@
 // Report pages: reads an event list from standard input and writes a page for the start and after every accepted event.
 // What a line says and what it prints is proved in steps, page and report. Here each line of the input is handed to the report, and what it prints is handed on at once.
+#![tactic(auto)]
+
 use console::{Input, Reached, hand_on, tell};
 use report::{Course, Report};
 use steps::line::LONGEST;
@@ -9,7 +11,7 @@ use text::words::first;
 const NAME: [u8; 5] = *b"pages";
 
 // How far the program has come: the report, the input, and whether there is more to do.
-#[derive(Drop)]
+#[derive(Clone, Copy)]
 struct Reading {
     report: Report,
     input: Input,

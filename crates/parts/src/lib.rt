@@ -1,4 +1,6 @@
 // The parts of an image read and replaced where they lie: a chip, the levels, the response, the event number; the walk along the chain; and what is decided applied to them.
 // Each function asks for an image; is_image has told, and each leaves one.
+#![tactic(auto)]
+
 pub mod apply;
 pub mod places;

@@ -1,5 +1,7 @@
 // The numbers handed back: why a call is refused, the number of each reason, what it says to people, and what an event answers.
 // A failure has a name here; document 01's table of numbers stands in specs/, beside the table of sentences, and every promise goes through it.
+#![tactic(auto)]
+
 ghost use Rattle.std.specs.Prelude.{◌≡◌};
 ghost use Rattle.refusal.specs.Numbers.{refusal_number, verdict_number, is_accepted};
 
@@ -7,7 +9,7 @@ mod answers;
 pub mod sentences;
 
 // The reasons, in the table's order.
-#[derive(Drop)]
+#[derive(Clone, Copy)]
 pub enum Refusal {
     NotSound,
     NoSuchChip,
@@ -24,14 +26,14 @@ pub enum Refusal {
 }
 
 // What a call is told before it changes anything.
-#[derive(Drop)]
+#[derive(Clone, Copy)]
 pub enum Verdict {
     Accepted,
     Refused(Refusal),
 }
 
 // What an event answers: a byte where one was driven or read.
-#[derive(Drop)]
+#[derive(Clone, Copy)]
 pub enum Answer {
     Done,
     Byte(u8),

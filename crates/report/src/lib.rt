@@ -1,5 +1,7 @@
 // The report of an event list, as text: a page for the start and after every accepted event, and a last line where a list ends before its end.
 // It is made line by line, into a lent buffer.
+#![tactic(auto)]
+
 ghost use Rattle.std.specs.Prelude.{◌≡◌};
 ghost use Rattle.report.specs.Report.{at_first, next_report, has_ended, Tells, step_reply, reply, last_reply};
 ghost use Rattle.report.specs.declared.Course.TheVariants.{GoesOn};
@@ -17,7 +19,7 @@ use steps::{Expected, Step};
 pub const PAGE: usize = 16384;
 
 // What the lines so far have made: the number of the next line, whether the list has started, and its chain.
-#[derive(Drop)]
+#[derive(Clone, Copy)]
 pub struct Report {
     pub line: u64,
     pub started: bool,
@@ -25,7 +27,7 @@ pub struct Report {
 }
 
 // How a report goes on after a line: it does; or its list is over; or it has stopped before that, since a step was refused or a line is malformed.
-#[derive(Drop)]
+#[derive(Clone, Copy)]
 pub enum Course {
     GoesOn,
     Over,
@@ -33,7 +35,7 @@ pub enum Course {
 }
 
 // What a line has done: the report after it, how many bytes it has printed, and how it goes on.
-#[derive(Drop)]
+#[derive(Clone, Copy)]
 pub struct Taken {
     pub report: Report,
     pub length: usize,

@@ -1,11 +1,13 @@
 // The response under way: what is held of it from its first pulse on, when its record is sound, and what ends it; and the walk along the chain that finds who
 // responds.
+#![tactic(auto)]
+
 mod along;
 mod held;
 mod sound;
 
 // A response that is under way, and how many of its bytes the chip has driven.
-#[derive(Drop)]
+#[derive(Clone, Copy)]
 pub struct Reply {
     pub chip: u8,
     pub channel: u8,
@@ -15,14 +17,14 @@ pub struct Reply {
 }
 
 // At most one response is under way.
-#[derive(Drop)]
+#[derive(Clone, Copy)]
 pub enum Response {
     Idle,
     UnderWay(Reply),
 }
 
 // The walk along the chain, from chip 0 on: the next chip, its Enable In, and the first chip so far that answers; the next chip itself if none does.
-#[derive(Drop)]
+#[derive(Clone, Copy)]
 pub struct Walk {
     pub at: u8,
     pub ei: bool,

@@ -1,6 +1,8 @@
 // Runs: lists of events as lent bytes, applied to one chain up to a limit, the end or the first refusal.
 // The records and the public call, `run`, stand here. The run itself works on an image where it lies (on_image.rt), for whoever holds one: it asks for what
 // `before_any` has told.
+#![tactic(auto)]
+
 mod list;
 pub mod on_image;
 
@@ -17,7 +19,7 @@ use image::writing::put_chain;
 use refusal::{Refusal, Verdict};
 
 // What a run reports, and the chain handed back. `accepted` counts the events accepted.
-#[derive(Drop)]
+#[derive(Clone, Copy)]
 pub struct Ran {
     pub verdict: Verdict,
     pub accepted: usize,

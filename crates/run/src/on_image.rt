@@ -12,7 +12,7 @@ use in_place::on;
 use refusal::{Answer, Refusal, Verdict};
 
 // What a run over an image reports; the chain is in the image.
-#[derive(Drop)]
+#[derive(Clone, Copy)]
 pub struct Reached {
     pub verdict: Verdict,
     pub accepted: usize,

@@ -1,12 +1,14 @@
 // The priority searches of one chip: the order in force, the candidate, and "clear highest". Each is one look for the first set channel.
 // No search asks anything of its caller: a pointer above 7 counts modulo 8 here, and is refused where document 01 refuses it.
+#![tactic(auto)]
+
 ghost use Rattle.std.specs.Prelude.{◌≡◌};
 ghost use Rattle.search.specs.Order.{last_of};
 ghost use Rattle.search.specs.Candidate.{candidate, exists, channel_of, candidate_number};
 ghost use Rattle.search.specs.Clear.{clear_highest};
 
 // What a search for a candidate finds.
-#[derive(Drop)]
+#[derive(Clone, Copy)]
 pub enum Candidate {
     Channel(u8),
     Nobody,

@@ -1,6 +1,8 @@
 // What a line of an event list says: the start, one of the eight events, nothing, or what it should have said.
 // A step is named by its kind, a number: 0 is the start, 1 to 8 are the events, by the kinds that they have in a list of numbers.
 // The records stand here; line.rt reads a line, kinds.rt has the steps' names and the arguments that each takes, spelled.rt writes a step.
+#![tactic(auto)]
+
 pub mod kinds;
 pub mod line;
 pub mod spelled;
@@ -8,7 +10,7 @@ pub mod spelled;
 use event::Event;
 
 // What stands behind a step's name.
-#[derive(Drop)]
+#[derive(Clone, Copy)]
 pub enum Argument {
     Count,
     Fill,
@@ -22,7 +24,7 @@ pub enum Argument {
 }
 
 // The arguments that a step takes, in their order: for its chip, its channel and its value. `End` stands for what it does not take.
-#[derive(Drop)]
+#[derive(Clone, Copy)]
 pub struct Form {
     pub chip: Argument,
     pub channel: Argument,
@@ -30,7 +32,7 @@ pub struct Form {
 }
 
 // What should have stood where a line is malformed.
-#[derive(Drop)]
+#[derive(Clone, Copy)]
 pub enum Expected {
     // A line that is not too long.
     Shorter,
@@ -43,7 +45,7 @@ pub enum Expected {
 }
 
 // What a line says.
-#[derive(Drop)]
+#[derive(Clone, Copy)]
 pub enum Step {
     Nothing,
     // Count and fill.

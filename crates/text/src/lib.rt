@@ -1,5 +1,7 @@
 // Text in lent buffers: written, as quoted words, decimal numbers, bytes in hex and words that were found; and read, as lines, words and the numbers that words say.
 // Every call is answered for every input: what there is no room for is not written, and what is no number is told to be none.
+#![tactic(auto)]
+
 pub mod cast;
 pub mod numbers;
 pub mod put;
@@ -7,21 +9,21 @@ pub mod tables;
 pub mod words;
 
 // What a word says that should be a number of eight bits.
-#[derive(Drop)]
+#[derive(Clone, Copy)]
 pub enum Number {
     Value(u8),
     Wrong,
 }
 
 // Another form of a byte: one that can be shown to people, or in small letters.
-#[derive(Drop)]
+#[derive(Clone, Copy)]
 pub enum Way {
     Shown,
     Small,
 }
 
 // Bytes that stand together: blanks, the letters of a word, or what is inside a line.
-#[derive(Drop)]
+#[derive(Clone, Copy)]
 pub enum Sort {
     Blank,
     Letter,

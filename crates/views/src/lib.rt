@@ -1,5 +1,7 @@
 // The two views of one state: the table of a chip's registers and the picture of its pins, with the chain's event number.
 // A view is a verdict beside its record, all of whose fields are 0 where it is refused. Both calls take every input.
+#![tactic(auto)]
+
 ghost use Rattle.std.specs.Prelude.{◌≡◌};
 ghost use Rattle.views.specs.Views.{table_of, picture_of, no_table, no_picture, view_verdict, register_view, pin_view};
 
@@ -8,7 +10,7 @@ use decide::tests::chip_verdict;
 use refusal::{Refusal, Verdict};
 
 // The table of a chip's registers.
-#[derive(Drop)]
+#[derive(Clone, Copy)]
 pub struct Registers {
     pub event: u16,
     pub irr: u8,
@@ -21,7 +23,7 @@ pub struct Registers {
 }
 
 // The picture of a chip's pins, and of the chain's.
-#[derive(Drop)]
+#[derive(Clone, Copy)]
 pub struct Pins {
     pub event: u16,
     pub ei: u8,
@@ -33,13 +35,13 @@ pub struct Pins {
     pub iack: u8,
 }
 
-#[derive(Drop)]
+#[derive(Clone, Copy)]
 pub struct RegisterView {
     pub verdict: Verdict,
     pub table: Registers,
 }
 
-#[derive(Drop)]
+#[derive(Clone, Copy)]
 pub struct PinView {
     pub verdict: Verdict,
     pub picture: Pins,
