@@ -8,7 +8,7 @@ use Prim.Native.Nat.{ℕ, ◌+◌, ◌≤◌, ◌<◌}
 use native.Mathlib.Nat.{mod-lt}
 use native.Mathlib.Omega.{arith}
 use lib.Dec.{lit<}
-use borrow.Author.Tests.{not_true}
+use borrow.Author.Tests.{not-true}
 use Rattle.bits.proofs.Below.{both_left, both_right}
 use Rattle.bits.specs.Below.{digit}
 use Rattle.search.proofs.Rotating.{place_of}
@@ -40,8 +40,8 @@ begins s i channel e es w =
     let two = both_left (waits (chip_at s i) channel && not (resets i e s)) _ three in
     record {
       waiting = both_left (waits (chip_at s i) channel) _ two;
-      no_reset = not_true (resets i e s) (both_right (waits (chip_at s i) channel) _ two);
-      no_answer = not_true (answers_it i channel e s) (both_right (waits (chip_at s i) channel && not (resets i e s)) _ three);
+      no_reset = not-true (resets i e s) (both_right (waits (chip_at s i) channel) _ two);
+      no_answer = not-true (answers_it i channel e s) (both_right (waits (chip_at s i) channel && not (resets i e s)) _ three);
       then = record {
         sound_chain = events_keep.sound_kept e s w.sound-chain;
         in_the_count = subst (λ (n : ℕ). i < n) (sym (events_keep.count_kept e s)) w.in-the-count;

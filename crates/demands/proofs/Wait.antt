@@ -10,7 +10,7 @@ use native.Mathlib.Omega.{arith}
 use lib.Dec.{eqb, lit<}
 use lib.ListN.{get_or, length}
 use lib.Seq.{get_or-set_same}
-use borrow.Author.Tests.{eqb-true, eqb-false, eq-eqb, not_true, leb-true}
+use borrow.Author.Tests.{eqb-true, eqb-false, eq-eqb, not-true, leb-true}
 use Rattle.bits.proofs.Below.{digit_lt, either, both_left, both_right, every_each}
 use Rattle.bits.specs.Below.{digit, every}
 use Rattle.bits.specs.Byte.{bit, is_waiting}
@@ -71,7 +71,7 @@ waiting_parts c channel e =
     let second = both_left (is_armed c && not (is_polled c)) _ first in
     record {
       armed = both_left (is_armed c) _ second;
-      interrupt = not_true (is_polled c) (both_right (is_armed c) _ second);
+      interrupt = not-true (is_polled c) (both_right (is_armed c) _ second);
       rotating = both_right (is_armed c && not (is_polled c)) _ first;
       request = both_right (is_armed c && not (is_polled c) && is_rotating c) _ e;
     }
@@ -276,7 +276,7 @@ counted-answered e s i channel here h hc w counts other =
     reached_selected s i h
     (ei_high s i (both_left (is_idle s.response) _ two) (both_right (is_idle s.response) _ two) (every_each i (λ j. is_armed (chip_at s j)) armed))
     (simp (p.interrupt, found))
-    (λ j l. not_true (gint_active (chip_at s j)) (every_each i (λ j. not (gint_active (chip_at s j))) none j l)) in
+    (λ j l. not-true (gint_active (chip_at s j)) (every_each i (λ j. not (gint_active (chip_at s j))) none j l)) in
     subst (λ found. is_first_pulse e s && is_for i channel found ≡ false → is_first_pulse e s && is_for_another i channel found ≡ true) (sym is)
     (one_or_other (is_first_pulse e s) (eqb i i) _ fp (eq-eqb i i refl))
     other

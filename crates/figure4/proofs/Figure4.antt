@@ -6,7 +6,7 @@ use Prim.Native.Nat.{ℕ, ◌/◌, ◌%◌, ◌≤◌, ◌<◌}
 use native.Mathlib.Nat.{mod-lt, mod-eq_of_lt}
 use native.Mathlib.Omega.{arith}
 use lib.Dec.{eqb, ltb, lit<}
-use borrow.Author.Tests.{le-leb, lt-leb, lt-ltb, ltb-true, ltb-false, ne_eqb, not_true}
+use borrow.Author.Tests.{le-leb, lt-leb, lt-ltb, ltb-true, ltb-false, ne_eqb, not-true}
 use Rattle.bits.proofs.Below.{either, both_left, both_right, tested}
 use Rattle.bits.specs.Byte.{bit}
 use Rattle.figure4.specs.Figure4.{is_reset, load_read, all_or_one, row_in, figure4, undefined}
@@ -185,5 +185,5 @@ is_no_reset (Undefined kind) = true
 pub no_reset : (code : ℕ) (row : Command) → figure4 code ≡ Row row → is_reset code ≡ false → is_reset_row row ≡ false
 unfolding figure4
 no_reset code row e other =
-    not_true (is_reset_row row)
+    not-true (is_reset_row row)
     (ap is_no_reset (sym e) ∙ in_figure is_no_reset (λ kind. refl) (λ row fit is. ap not is) (code / 16) code (λ is. absurd (false≢true (sym other ∙ is))))

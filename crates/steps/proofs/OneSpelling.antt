@@ -117,14 +117,14 @@ argument_no_return Channel n h = word_no_return (decimal n) (decimal_back n h).0
 argument_no_return Level n h = word_no_return (decimal n) (decimal_back n h).0
 argument_no_return End n h = refl
 
-not_true : (b : Bool) → not b ≡ true → b ≡ false
-not_true true h = absurd (false≢true h)
-not_true false h = refl
+not-true : (b : Bool) → not b ≡ true → b ≡ false
+not-true true h = absurd (false≢true h)
+not-true false h = refl
 
 all-text : (started : Bool) (line : List ℕ) → length line ≤ 1024 → each no_return line ≡ true → step_of started line ≡ step_in started line
 unfolding step_of
 all-text started line short ok =
-    let last : eqb (get_or line (length line - 1) 0) 13 ≡ false = not_true _ (each_at no_return line (length line - 1) 0 ok refl) in
+    let last : eqb (get_or line (length line - 1) 0) 13 ≡ false = not-true _ (each_at no_return line (length line - 1) 0 ok refl) in
     ap (λ t. cond t (Malformed Shorter 0) (step_in started (take (text_end line) line))) (le-ltb 1024 (length line) short)
     ∙ ap (λ t. step_in started (take (cond t (length line - 1) (length line)) line)) last
     ∙ ap (step_in started) (take-length line)

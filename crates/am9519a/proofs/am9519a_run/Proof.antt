@@ -1,7 +1,7 @@
 -- `am9519a::am9519a_run` meets its contract.
 -- Assumes nothing.
 use mathlib.Core.Path.{◌≡◌, sym, ap, ◌∙◌}
-use borrow.Author.Tests.{not_true, not-false}
+use borrow.Author.Tests.{not-true, not-false}
 use borrow.Author.Rules.{rules}
 use Rattle.refusal.specs.Numbers.{verdict_number}
 use Rattle.run.specs.Run.{Report, before_any}
@@ -31,7 +31,7 @@ returns : tie.Need-returns
 unfolding before_any
 returns c =
     let is : c.before.before.before.before-any.result ≡ before_any (chain_of c.before.before.before.before.before.before.before.before.before.args.image.now) c.before.before.before.before.before.before.before.before.before.args.events.now c.before.before.before.before.before.before.before.before.before.args.results.now = c.before.before.before.before-any.ensures ∙ ap (λ s. before_any s c.before.before.before.before.before.before.before.before.before.args.events.now c.before.before.before.before.before.before.before.before.before.args.results.now) c.before.before.before.before.chain-of.ensures in
-    let told = run_refused c.before.before.before.before.before.before.before.before.before.args.image.now c.before.before.before.before.before.before.before.before.before.args.events.now c.before.before.before.before.before.before.before.before.before.args.limit c.before.before.before.before.before.before.before.before.before.args.results.now c.before.before.before.before.before.before.before.before.before.args.accepted.now c.before.before.before.before-any.result is (sym c.before.before.is-accepted.ensures ∙ not_true c.before.before.is-accepted.result c.before.if1.true) in
+    let told = run_refused c.before.before.before.before.before.before.before.before.before.args.image.now c.before.before.before.before.before.before.before.before.before.args.events.now c.before.before.before.before.before.before.before.before.before.args.limit c.before.before.before.before.before.before.before.before.before.args.results.now c.before.before.before.before.before.before.before.before.before.args.accepted.now c.before.before.before.before-any.result is (sym c.before.before.is-accepted.ensures ∙ not-true c.before.before.is-accepted.result c.before.if1.true) in
     ap (λ n. run_left n c.before.before.before.before.before.before.before.before.before.args.image.now c.before.before.before.before.before.before.before.before.before.args.results.now c.before.before.before.before.before.before.before.before.before.args.accepted.now) c.number.ensures ∙ sym told
 
 run-in-requires : tie.Need-run-in-requires

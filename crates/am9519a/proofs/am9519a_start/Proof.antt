@@ -2,7 +2,7 @@
 -- Assumes nothing.
 use mathlib.Core.Bool.{true}
 use mathlib.Core.Path.{◌≡◌, sym, ap, ◌∙◌}
-use borrow.Author.Tests.{not_true, not-false}
+use borrow.Author.Tests.{not-true, not-false}
 use borrow.Author.Rules.{rules}
 use Rattle.refusal.specs.Numbers.{verdict_number, is_accepted}
 use Rattle.refusal.proofs.Numbers.{accepted_is}
@@ -31,7 +31,7 @@ number-requires c κs = search rules
 returns-2 : tie.Need-returns-2
 returns-2 c =
     let is : c.before.before.before.verdict.result ≡ verdict_in (start_of c.before.before.before.before.before.before.before.args.count c.before.before.before.before.before.before.before.args.fill).answer = c.before.before.before.verdict.ensures ∙ ap (λ o. verdict_in o.answer) c.before.before.before.before.start.ensures in
-    let told = start_refused c.before.before.before.before.before.before.before.args.count c.before.before.before.before.before.before.before.args.fill c.before.before.before.before.before.before.before.args.image.now c.before.before.before.before.before.if1.false (ap is_accepted (sym is) ∙ sym c.before.before.is-accepted.ensures ∙ not_true c.before.before.is-accepted.result c.before.if2.true) in
+    let told = start_refused c.before.before.before.before.before.before.before.args.count c.before.before.before.before.before.before.before.args.fill c.before.before.before.before.before.before.before.args.image.now c.before.before.before.before.before.if1.false (ap is_accepted (sym is) ∙ sym c.before.before.is-accepted.ensures ∙ not-true c.before.before.is-accepted.result c.before.if2.true) in
     (c.number.ensures ∙ ap verdict_number is ∙ sym (ap (λ r. r.number) told), sym (ap (λ r. r.buffer) told))
 
 put-chain-requires : tie.Need-put-chain-requires

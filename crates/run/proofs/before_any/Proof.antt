@@ -1,7 +1,7 @@
 -- `run::before_any` meets its contract.
 -- Assumes nothing.
 use borrow.Author.Rules.{rules}
-use borrow.Author.Tests.{ne_eqb, not_true, lt-ltb, not-false, le-ltb}
+use borrow.Author.Tests.{ne_eqb, not-true, lt-ltb, not-false, le-ltb}
 use Rattle.run.specs.Run.{before_any}
 use Rattle.run.proofs.before_any.Statement.{statement}
 use Rattle.run.proofs.before_any.Tie as tie
@@ -11,7 +11,7 @@ is-sound-requires c κs = search rules
 
 returns : tie.Need-returns
 unfolding before_any
-returns c = simp (← c.before.is-sound.ensures, not_true c.before.is-sound.result c.if1.true)
+returns c = simp (← c.before.is-sound.ensures, not-true c.before.is-sound.result c.if1.true)
 
 returns-2 : tie.Need-returns-2
 unfolding before_any

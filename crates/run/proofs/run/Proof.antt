@@ -3,7 +3,7 @@
 use mathlib.Core.Path.{◌≡◌, sym, ap, subst, ◌∙◌}
 use Prim.Native.Nat.{ℕ, ◌<◌}
 use lib.ListN.{length, length-map}
-use borrow.Author.Tests.{not_true, not-false}
+use borrow.Author.Tests.{not-true, not-false}
 use borrow.Author.Rules.{rules}
 use Rattle.refusal.specs.Numbers.{is_accepted}
 use Rattle.image.proofs.OneToOne.{of_the_layout, read_back}
@@ -38,7 +38,7 @@ returns : tie.Need-returns
 unfolding before_any
 returns c =
     let ended : run_of c.before.before.before.before.before.before.args.chain c.before.before.before.before.before.before.args.bytes.now c.before.before.before.before.before.before.args.limit c.before.before.before.before.before.before.args.results.now ≡ stopped c.before.before.before.before-any.result 0 c.before.before.before.before.before.before.args.chain c.before.before.before.before.before.before.args.results.now =
-    refused-before c.before.before.before.before.before.before.args.chain c.before.before.before.before.before.before.args.bytes.now c.before.before.before.before.before.before.args.limit c.before.before.before.before.before.before.args.results.now c.before.before.before.before-any.result c.before.before.before.before-any.ensures (sym c.before.before.is-accepted.ensures ∙ not_true c.before.before.is-accepted.result c.before.if1.true) in
+    refused-before c.before.before.before.before.before.before.args.chain c.before.before.before.before.before.before.args.bytes.now c.before.before.before.before.before.before.args.limit c.before.before.before.before.before.before.args.results.now c.before.before.before.before-any.result c.before.before.before.before-any.ensures (sym c.before.before.is-accepted.ensures ∙ not-true c.before.before.is-accepted.result c.before.if1.true) in
     (c.stopped.ensures ∙ sym (ap (λ r. r.ran) ended), sym (ap (λ r. r.results) ended))
 
 slice-aggregate-put-chain : tie.Need-slice-aggregate-put-chain

@@ -3,7 +3,7 @@
 use mathlib.Core.Path.{◌≡◌}
 use native.Mathlib.Omega.{arith}
 use borrow.Author.Rules.{rules}
-use borrow.Author.Tests.{not_true, not-false, lt-ltb, le-ltb}
+use borrow.Author.Tests.{not-true, not-false, lt-ltb, le-ltb}
 use Rattle.search.specs.Candidate.{candidate}
 use Rattle.search.proofs.Order.{candidate_by, candidate_by_lem}
 use Rattle.search.proofs.candidate_of.Statement.{statement}
@@ -14,7 +14,7 @@ is-set-requires c κs = search rules
 
 returns : tie.Need-returns
 unfolding candidate
-returns c = simp (← c.before.is_set.ensures, not_true c.before.is_set.result c.if1.true)
+returns c = simp (← c.before.is_set.ensures, not-true c.before.is_set.result c.if1.true)
 
 last-of-requires : tie.Need-last-of-requires
 last-of-requires c κs = search rules

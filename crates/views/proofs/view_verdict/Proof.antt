@@ -1,7 +1,7 @@
 -- `views::view_verdict` meets its contract.
 -- Assumes nothing.
 use borrow.Author.Rules.{rules}
-use borrow.Author.Tests.{not_true, not-false}
+use borrow.Author.Tests.{not-true, not-false}
 use Rattle.views.proofs.view_verdict.Statement.{statement}
 use Rattle.views.proofs.view_verdict.Tie as tie
 
@@ -9,7 +9,7 @@ is-sound-requires : tie.Need-is-sound-requires
 is-sound-requires c κs = search rules
 
 returns : tie.Need-returns
-returns c = simp (← c.before.is-sound.ensures, not_true c.before.is-sound.result c.if1.true)
+returns c = simp (← c.before.is-sound.ensures, not-true c.before.is-sound.result c.if1.true)
 
 chip-verdict-requires : tie.Need-chip-verdict-requires
 chip-verdict-requires c κs = search rules

@@ -2,7 +2,7 @@
 -- Assumes nothing.
 use mathlib.Core.Path.{sym, ap, ◌∙◌}
 use borrow.Author.Rules.{rules}
-use borrow.Author.Tests.{not_true, not-false}
+use borrow.Author.Tests.{not-true, not-false}
 use Rattle.am9519a.proofs.Seen.{view_refused, view_short, view_fits}
 use Rattle.am9519a.proofs.shown.put_view.Statement.{statement}
 use Rattle.am9519a.proofs.shown.put_view.Tie as tie
@@ -15,7 +15,7 @@ number-requires c κs = search rules
 
 returns : tie.Need-returns
 returns c =
-    let told = view_refused c.before.before.before.before.before.args.verdict c.before.before.before.before.before.args.bytes.now c.before.before.before.before.before.args.view.now (sym c.before.before.is-accepted.ensures ∙ not_true c.before.before.is-accepted.result c.before.if1.true) in
+    let told = view_refused c.before.before.before.before.before.args.verdict c.before.before.before.before.before.args.bytes.now c.before.before.before.before.before.args.view.now (sym c.before.before.is-accepted.ensures ∙ not-true c.before.before.is-accepted.result c.before.if1.true) in
     (c.number.ensures ∙ sym (ap (λ r. r.number) told), sym (ap (λ r. r.buffer) told))
 
 returns-2 : tie.Need-returns-2

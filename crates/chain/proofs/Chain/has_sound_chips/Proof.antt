@@ -6,7 +6,7 @@ use Prim.Native.Nat.{ℕ, ◌-◌, ◌≤◌, ◌<◌}
 use native.Mathlib.Omega.{arith}
 use borrow.Author.Count.{below_none, below_more}
 use borrow.Author.Rules.{rules}
-use borrow.Author.Tests.{not_true, not-false}
+use borrow.Author.Tests.{not-true, not-false}
 use Rattle.bits.proofs.Below.{every-all, every-not}
 use Rattle.chip.specs.Sound.{chip_sound}
 use Rattle.chain.specs.Fields.{chip_at}
@@ -35,7 +35,7 @@ test c = simp (c.is-sound.ensures, c.before.chip-at.ensures)
 
 returns : tie.Need-returns invariant-loop decreases-loop
 unfolding chips_sound
-returns c = sym (every-not c.before.before.before.before.before.args.self.count (λ k. chip_sound (chip_at c.before.before.before.before.before.args.self k)) c.before.before.before.before.loop.i c.before.before.before.loop-test.true (test c.before ∙ not_true _ c.if1.true))
+returns c = sym (every-not c.before.before.before.before.before.args.self.count (λ k. chip_sound (chip_at c.before.before.before.before.before.args.self k)) c.before.before.before.before.loop.i c.before.before.before.loop-test.true (test c.before ∙ not-true _ c.if1.true))
 
 add-i : tie.Need-overflow-add-i invariant-loop decreases-loop
 add-i c = omega arith

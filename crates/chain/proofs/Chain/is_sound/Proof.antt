@@ -1,7 +1,7 @@
 -- `chain::Chain::is_sound` meets its contract.
 -- Assumes nothing.
 use borrow.Author.Rules.{rules}
-use borrow.Author.Tests.{not_true, not-false}
+use borrow.Author.Tests.{not-true, not-false}
 use Rattle.chain.specs.Sound.{sound}
 use Rattle.chain.proofs.Chain.is_sound.Statement.{statement}
 use Rattle.chain.proofs.Chain.is_sound.Tie as tie
@@ -11,7 +11,7 @@ is-count-requires c κs = search rules
 
 returns : tie.Need-returns
 unfolding sound
-returns c = simp (← c.before.is-count.ensures, not_true c.before.is-count.result c.if1.true)
+returns c = simp (← c.before.is-count.ensures, not-true c.before.is-count.result c.if1.true)
 
 has-sound-chips-requires : tie.Need-has-sound-chips-requires
 has-sound-chips-requires c κs = search rules

@@ -2,7 +2,7 @@
 -- Assumes nothing.
 use mathlib.Core.Path.{sym, ◌∙◌}
 use borrow.Author.Rules.{rules}
-use borrow.Author.Tests.{not_true, not-false}
+use borrow.Author.Tests.{not-true, not-false}
 use Rattle.chain.specs.Events.{event_of, judged}
 use Rattle.chain.specs.Refusals.{verdict_of}
 use Rattle.chain.proofs.Chain.on.Statement.{statement}
@@ -16,7 +16,7 @@ refused-requires c κs = search rules
 
 returns : tie.Need-returns
 unfolding event_of judged verdict_of
-returns c = simp (c.refused.ensures, ← c.before.before.is-sound.ensures, not_true c.before.before.is-sound.result c.before.if1.true)
+returns c = simp (c.refused.ensures, ← c.before.before.is-sound.ensures, not-true c.before.before.is-sound.result c.before.if1.true)
 
 on-sound-requires : tie.Need-on-sound-requires
 on-sound-requires c κs = sym c.before.is-sound.ensures ∙ not-false c.before.is-sound.result c.if1.false

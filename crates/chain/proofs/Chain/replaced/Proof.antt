@@ -1,14 +1,14 @@
 -- `chain::Chain::replaced` meets its contract.
 -- Assumes nothing.
 use borrow.Author.Rules.{rules}
-use borrow.Author.Tests.{not_true, not-false}
+use borrow.Author.Tests.{not-true, not-false}
 use Rattle.chain.specs.Apply.{replaced_in}
 use Rattle.chain.proofs.Chain.replaced.Statement.{statement}
 use Rattle.chain.proofs.Chain.replaced.Tie as tie
 
 returns : tie.Need-returns
 unfolding replaced_in
-returns c = simp (not_true c.before.before.args.change.replaces c.if1.true)
+returns c = simp (not-true c.before.before.args.change.replaces c.if1.true)
 
 with-chip-requires : tie.Need-with-chip-requires
 with-chip-requires c κs = search rules

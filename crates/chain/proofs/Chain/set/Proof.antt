@@ -1,14 +1,14 @@
 -- `chain::Chain::set` meets its contract.
 -- Assumes nothing.
 use borrow.Author.Rules.{rules}
-use borrow.Author.Tests.{not_true, not-false}
+use borrow.Author.Tests.{not-true, not-false}
 use Rattle.chain.specs.Apply.{set_in}
 use Rattle.chain.proofs.Chain.set.Statement.{statement}
 use Rattle.chain.proofs.Chain.set.Tie as tie
 
 returns : tie.Need-returns
 unfolding set_in
-returns c = simp (not_true c.before.before.args.change.sets c.if1.true)
+returns c = simp (not-true c.before.before.args.change.sets c.if1.true)
 
 with-own-requires : tie.Need-with-own-requires
 with-own-requires c κs = search rules

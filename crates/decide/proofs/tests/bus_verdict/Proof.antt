@@ -3,7 +3,7 @@
 use mathlib.Core.List.{[], ◌∷◌}
 use mathlib.Core.Path.{◌≡◌, sym, ◌∙◌}
 use borrow.Author.Rules.{rules}
-use borrow.Author.Tests.{not_true, not-false}
+use borrow.Author.Tests.{not-true, not-false}
 use Rattle.refusal.specs.Numbers.{first_of}
 use Rattle.refusal.specs.declared.Verdict.{Verdict}
 use Rattle.decide.specs.Refusals.{no_such_chip, pulse_under_way}
@@ -28,10 +28,10 @@ rest_decides c r e =
 returns : tie.Need-returns
 returns c =
     refused-at_first (no_such_chip c.before.before.before.args.count c.before.before.before.args.i ∷ []) (pulse_under_way c.before.before.before.args.iack ∷ [])
-    _ _ c.before.before.chip-verdict.ensures c.before.is-accepted.ensures (not_true _ c.if1.true)
+    _ _ c.before.before.chip-verdict.ensures c.before.is-accepted.ensures (not-true _ c.if1.true)
 
 returns-2 : tie.Need-returns-2
-returns-2 c = rest_decides c.before _ (simp (not_true c.before.before.before.before.args.iack c.if2.true))
+returns-2 c = rest_decides c.before _ (simp (not-true c.before.before.before.before.args.iack c.if2.true))
 
 returns-3 : tie.Need-returns-3
 returns-3 c = rest_decides c.before _ (simp (not-false c.before.before.before.before.args.iack c.if2.false))

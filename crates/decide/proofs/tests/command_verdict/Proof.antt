@@ -3,7 +3,7 @@
 use mathlib.Core.List.{[], ◌∷◌}
 use mathlib.Core.Path.{◌≡◌, sym, ◌∙◌}
 use borrow.Author.Rules.{rules}
-use borrow.Author.Tests.{not_true, not-false}
+use borrow.Author.Tests.{not-true, not-false}
 use Rattle.refusal.specs.Numbers.{first_of}
 use Rattle.refusal.specs.declared.Verdict.{Verdict}
 use Rattle.decide.specs.Refusals.{no_such_chip, pulse_under_way, undefined_command}
@@ -30,7 +30,7 @@ returns : tie.Need-returns
 returns c =
     refused-at_first (no_such_chip c.before.before.before.args.count c.before.before.before.args.i ∷ pulse_under_way c.before.before.before.args.iack ∷ [])
     (undefined_command c.before.before.before.args.code ∷ [])
-    _ _ c.before.before.bus-verdict.ensures c.before.is-accepted.ensures (not_true _ c.if1.true)
+    _ _ c.before.before.bus-verdict.ensures c.before.is-accepted.ensures (not-true _ c.if1.true)
 
 of-requires : tie.Need-of-requires
 of-requires c κs = search rules

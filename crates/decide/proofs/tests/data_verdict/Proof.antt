@@ -3,7 +3,7 @@
 use borrow.Author.Rules.{rules}
 use mathlib.Core.List.{[], ◌∷◌}
 use mathlib.Core.Path.{◌≡◌, sym, ◌∙◌}
-use borrow.Author.Tests.{not_true, not-false}
+use borrow.Author.Tests.{not-true, not-false}
 use Rattle.refusal.specs.Numbers.{first_of}
 use Rattle.refusal.specs.declared.Verdict.{Verdict}
 use Rattle.decide.specs.Refusals.{no_such_chip, pulse_under_way, no_destination, past_its_count}
@@ -23,7 +23,7 @@ is-accepted-requires : tie.Need-is-accepted-requires
 is-accepted-requires c κs = search rules
 
 returns : tie.Need-returns
-returns c = refused-at_first (no_such_chip c.before.before.before.args.count c.before.before.before.args.i ∷ pulse_under_way c.before.before.before.args.iack ∷ []) (no_destination c.before.before.before.args.chip ∷ past_its_count c.before.before.before.args.chip ∷ []) _ _ c.before.before.bus-verdict.ensures c.before.is-accepted.ensures (not_true _ c.if1.true)
+returns c = refused-at_first (no_such_chip c.before.before.before.args.count c.before.before.before.args.i ∷ pulse_under_way c.before.before.before.args.iack ∷ []) (no_destination c.before.before.before.args.chip ∷ past_its_count c.before.before.before.args.chip ∷ []) _ _ c.before.before.bus-verdict.ensures c.before.is-accepted.ensures (not-true _ c.if1.true)
 
 has-no-destination-requires : tie.Need-has-no-destination-requires
 has-no-destination-requires c κs = search rules

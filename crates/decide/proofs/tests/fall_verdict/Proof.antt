@@ -1,12 +1,12 @@
 -- `decide::tests::fall_verdict` meets its contract.
 -- Assumes nothing.
 use borrow.Author.Rules.{rules}
-use borrow.Author.Tests.{not_true}
+use borrow.Author.Tests.{not-true}
 use Rattle.decide.proofs.tests.fall_verdict.Statement.{statement}
 use Rattle.decide.proofs.tests.fall_verdict.Tie as tie
 
 returns : tie.Need-returns
-returns c = simp (not_true c.before.args.iack c.if1.true)
+returns c = simp (not-true c.before.args.iack c.if1.true)
 
 returns-2 : tie.Need-returns-2
 returns-2 c = search rules

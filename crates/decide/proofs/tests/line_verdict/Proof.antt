@@ -3,7 +3,7 @@
 use mathlib.Core.List.{[], ◌∷◌}
 use mathlib.Core.Path.{◌≡◌, sym, ◌∙◌}
 use borrow.Author.Rules.{rules}
-use borrow.Author.Tests.{lt-ltb, le-ltb, not_true, not-false}
+use borrow.Author.Tests.{lt-ltb, le-ltb, not-true, not-false}
 use Rattle.refusal.specs.Numbers.{first_of}
 use Rattle.refusal.specs.declared.Verdict.{Verdict}
 use Rattle.decide.specs.Refusals.{no_such_chip, no_such_channel, no_such_level}
@@ -31,7 +31,7 @@ returns : tie.Need-returns
 returns c =
     refused-at_first (no_such_chip c.before.before.before.args.count c.before.before.before.args.i ∷ [])
     (no_such_channel c.before.before.before.args.channel ∷ no_such_level c.before.before.before.args.level ∷ [])
-    _ _ c.before.before.chip-verdict.ensures c.before.is-accepted.ensures (not_true _ c.if1.true)
+    _ _ c.before.before.chip-verdict.ensures c.before.is-accepted.ensures (not-true _ c.if1.true)
 
 returns-2 : tie.Need-returns-2
 returns-2 c = rest_decides c.before _ (simp (lt-ltb _ _ c.if2.true))

@@ -9,7 +9,7 @@ use lib.ListN.{length, drop, length-drop}
 use lib.Seq.{take_all}
 use borrow.Author.Count.{below_none, below_more}
 use borrow.Author.Rules.{rules}
-use borrow.Author.Tests.{not_true, not-false}
+use borrow.Author.Tests.{not-true, not-false}
 use Rattle.bits.proofs.Below.{every-all, every-not}
 use Rattle.image.specs.Reading.{record_form, records_form}
 use Rattle.image.proofs.form.has_records.Statement.{statement}
@@ -52,7 +52,7 @@ test c =
 
 returns : tie.Need-returns invariant-loop decreases-loop
 unfolding records_form
-returns c = sym (every-not 8 (λ k. record_form (drop (16 + 64 * k) c.before.before.before.before.before.before.args.image.now)) c.before.before.before.before.loop.i c.before.before.before.loop-test.true (test c.before ∙ not_true _ c.if1.true))
+returns c = sym (every-not 8 (λ k. record_form (drop (16 + 64 * k) c.before.before.before.before.before.before.args.image.now)) c.before.before.before.before.loop.i c.before.before.before.loop-test.true (test c.before ∙ not-true _ c.if1.true))
 
 add-i : tie.Need-overflow-add-i invariant-loop decreases-loop
 add-i c = omega arith

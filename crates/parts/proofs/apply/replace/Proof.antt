@@ -1,14 +1,14 @@
 -- `parts::apply::replace` meets its contract.
 -- Assumes nothing.
 use borrow.Author.Rules.{rules}
-use borrow.Author.Tests.{not_true, not-false}
+use borrow.Author.Tests.{not-true, not-false}
 use Rattle.chain.specs.Apply.{replaced_in}
 use Rattle.parts.proofs.apply.replace.Statement.{statement}
 use Rattle.parts.proofs.apply.replace.Tie as tie
 
 returns : tie.Need-returns
 unfolding replaced_in
-returns c = (c.before.before.before.requires.0, simp (not_true c.before.before.before.args.change.replaces c.if1.true))
+returns c = (c.before.before.before.requires.0, simp (not-true c.before.before.before.args.change.replaces c.if1.true))
 
 set-chip-requires : tie.Need-set-chip-requires
 set-chip-requires c κs = search rules

@@ -1,14 +1,14 @@
 -- `parts::apply::set` meets its contract.
 -- Assumes nothing.
 use borrow.Author.Rules.{rules}
-use borrow.Author.Tests.{not_true, not-false}
+use borrow.Author.Tests.{not-true, not-false}
 use Rattle.chain.specs.Apply.{set_in}
 use Rattle.parts.proofs.apply.set.Statement.{statement}
 use Rattle.parts.proofs.apply.set.Tie as tie
 
 returns : tie.Need-returns
 unfolding set_in
-returns c = (c.before.before.before.requires, simp (not_true c.before.before.before.args.change.sets c.if1.true))
+returns c = (c.before.before.before.requires, simp (not-true c.before.before.before.args.change.sets c.if1.true))
 
 set-own-requires : tie.Need-set-own-requires
 set-own-requires c κs = search rules

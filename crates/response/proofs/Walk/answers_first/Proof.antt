@@ -1,7 +1,7 @@
 -- `response::Walk::answers_first` meets its contract.
 -- Assumes nothing.
 use borrow.Author.Rules.{rules}
-use borrow.Author.Tests.{lt-ltb, le-ltb, not_true, not-false}
+use borrow.Author.Tests.{lt-ltb, le-ltb, not-true, not-false}
 use Rattle.response.proofs.Walk.answers_first.Statement.{statement}
 use Rattle.response.proofs.Walk.answers_first.Tie as tie
 
@@ -12,7 +12,7 @@ add-result : tie.Need-overflow-add-result
 add-result c = search rules
 
 returns-2 : tie.Need-returns-2
-returns-2 c = simp (le-ltb _ _ c.before.before.before.if1.false, not_true c.before.before.before.before.before.args.self.ei c.before.if2.true)
+returns-2 c = simp (le-ltb _ _ c.before.before.before.if1.false, not-true c.before.before.before.before.before.args.self.ei c.before.if2.true)
 
 gint-active-requires : tie.Need-gint-active-requires
 gint-active-requires c κs = search rules

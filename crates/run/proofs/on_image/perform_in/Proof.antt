@@ -8,7 +8,7 @@ use native.Mathlib.Nat.{sub-zero}
 use native.Mathlib.Omega.{arith}
 use lib.ListN.{length}
 use borrow.Author.Rules.{rules}
-use borrow.Author.Tests.{not_true, not-false}
+use borrow.Author.Tests.{not-true, not-false}
 use Rattle.refusal.specs.Numbers.{is_accepted}
 use Rattle.refusal.specs.declared.Verdict.{Verdict}
 use Rattle.refusal.specs.Answers.{verdict_in, handed}
@@ -60,7 +60,7 @@ returns c =
     let answered : c.before.before.before.before.before.step_in.result ≡ o.answer = c.before.before.before.before.before.step_in.ensures.0 ∙ ap (λ l. (listed_outcome l s).answer) c.before.before.before.before.before.before.listed_at.ensures in
     let left : chain_in c.before.before.before.before.before.step_in.new.0 ≡ o.chain = c.before.before.before.before.before.step_in.ensures.1.1 ∙ ap (λ l. (listed_outcome l s).chain) c.before.before.before.before.before.before.listed_at.ensures in
     let told : is_accepted (verdict_in o.answer) ≡ c.before.is-accepted.result = ap (λ a. is_accepted (verdict_in a)) (sym answered) ∙ ap is_accepted (sym c.before.before.verdict.ensures) ∙ sym c.before.is-accepted.ensures in
-    let off : is_accepted (verdict_in o.answer) ≡ false = told ∙ not_true c.before.is-accepted.result c.if1.true in
+    let off : is_accepted (verdict_in o.answer) ≡ false = told ∙ not-true c.before.is-accepted.result c.if1.true in
     let ended : run_from c.before.before.before.before.before.before.before.before.before.before.before.before.before.args.count bytes 0 (chain_in c.before.before.before.before.before.before.before.before.before.before.before.before.before.args.image.now) c.before.before.before.before.before.before.before.before.before.before.before.before.before.args.results.now ≡ stopped (verdict_in o.answer) n s c.before.before.before.before.before.before.before.before.before.loop.results =
     c.before.before.before.before.before.before.before.before.before.loop.invariant.4 ∙ stops (c.before.before.before.before.before.before.before.before.before.before.before.before.before.args.count - n) (c.before.before.before.before.before.before.before.before.before.before.before.before.before.args.count - (n + 1)) bytes n s c.before.before.before.before.before.before.before.before.before.loop.results o (omega arith) refl off in (
       c.before.before.before.before.before.step_in.ensures.1.0,

@@ -1,0 +1,16 @@
+-- `text::numbers::decimal_in` meets its contract.
+use mathlib.Core.Path.{◌≡◌, sym, ◌∙◌}
+use Prim.Native.Nat.{◌+◌, ◌-◌, ◌≤◌}
+use native.Mathlib.Omega.{arith}
+use borrow.Author.Rules.{rules}
+use borrow.Author.Tests.{not-true, not-false}
+use lib.ListN.{length, get_or, drop}
+use Rattle.text.specs.Words.{decimal_in, decimal_from}
+use Rattle.text.proofs.Reading.{digit_is, decimal_none, decimal_some, decimal_more, decimal_other, decimal_above, decimal-ends}
+use Rattle.text.proofs.numbers.decimal_in.Given as goal
+
+abbrev pub invariant-loop-k : goal.invariant-loop-k
+invariant-loop-k l = (l.k ≤ length l.word) × (l.value ≤ 255) × (decimal_in l.word ≡ decimal_from l.value (drop l.k l.word))
+
+abbrev pub decreases-loop-k : goal.decreases-loop-k
+decreases-loop-k l = length l.word - l.k

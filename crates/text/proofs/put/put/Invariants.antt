@@ -1,0 +1,15 @@
+-- `text::put::put` meets its contract. The loop's invariant: the whole is what is left of the text, written behind what has been.
+use mathlib.Core.Path.{◌≡◌, refl, sym, ◌∙◌}
+use Prim.Native.Nat.{◌-◌, ◌≤◌}
+use native.Mathlib.Omega.{arith}
+use borrow.Author.Tests.{ltb-true, ltb-false}
+use lib.ListN.{length, drop, length-set}
+use Rattle.text.specs.Written.{written}
+use Rattle.text.proofs.Written.{written_more, written_end, written_full}
+use Rattle.text.proofs.put.put.Given as goal
+
+abbrev pub invariant-loop-k : goal.invariant-loop-k
+invariant-loop-k l = (l.k ≤ length l.from) × (length l.to ≡ length l.initial.to) × (written (l.initial.to, l.at) l.from ≡ written (l.to, l.place) (drop l.k l.from))
+
+abbrev pub decreases-loop-k : goal.decreases-loop-k
+decreases-loop-k l = length l.from - l.k
