@@ -49,10 +49,15 @@ pub passed_rise : (v : Seen) → verdict_on Rise v ≡ Accepted → v.iack ≡ f
 passed_rise v ok = passed_first v.iack IackThereAlready [] ok
 
 -- tests in two parts: where the first part refuses, that is the verdict; where it accepts, the rest decides
-pub refused-at_first : (first rest : List (Bool × Refusal)) (v : Verdict) (ok : Bool) → v ≡ first_of first → ok ≡ is_accepted v → ok ≡ false
+pub refused_at_first : (first rest : List (Bool × Refusal)) (v : Verdict) (ok : Bool) → v ≡ first_of first → ok ≡ is_accepted v → ok ≡ false
     → v ≡ first_of (first ++ rest)
-refused-at_first first rest v ok is told e = is ∙ sym (refused_already first rest (ap is_accepted (sym is) ∙ sym told ∙ e))
+refused_at_first first rest v ok is told e = is ∙ sym (refused_already first rest (ap is_accepted (sym is) ∙ sym told ∙ e))
 
 pub left_to_the_rest : (first rest : List (Bool × Refusal)) (v : Verdict) (ok : Bool) → v ≡ first_of first → ok ≡ is_accepted v → ok ≡ true
     → first_of (first ++ rest) ≡ first_of rest
 left_to_the_rest first rest v ok is told e = accepted_so_far first rest (ap is_accepted (sym is) ∙ sym told ∙ e)
+
+pub rest_decides : (first rest : List (Bool × Refusal)) (v : Verdict) (ok : Bool) (r : Verdict) → v ≡ first_of first → ok ≡ is_accepted v → ok ≡ true
+    → r ≡ first_of rest
+    → r ≡ first_of (first ++ rest)
+rest_decides first rest v ok r is told e on = on ∙ sym (left_to_the_rest first rest v ok is told e)
