@@ -1,0 +1,6 @@
+-- `image::form::is_response` meets its contract.
+use borrow.Author.Rules.{rules}
+use Rattle.image.proofs.form.is_response.Goals as goal
+
+pub returns : goal.returns
+returns c = simp c.is_zero.ensures

@@ -1,0 +1,6 @@
+-- `image::writing::destination_bytes` meets its contract.
+use borrow.Author.Rules.{rules}
+use Rattle.image.proofs.writing.destination_bytes.Goals as goal
+
+pub returns-in-Level : goal.returns-in-Level
+returns-in-Level c = simp c.in-Level.is

@@ -1,0 +1,48 @@
+-- `image::writing::put_chain` meets its contract.
+use mathlib.Core.List.{append-nil, ◌++◌}
+use mathlib.Core.Path.{◌≡◌, refl, sym, ap, ◌∙◌}
+use Prim.Native.Nat.{ℕ, min, ◌+◌, ◌-◌, ◌*◌, ◌≤◌}
+use native.Mathlib.Omega.{arith}
+use lib.ListN.{get_or, length-take, length-drop, length-map, length, take, drop}
+use lib.Seq.{take_at, take_all}
+use borrow.Rule.Slice.PartMut.{put_mid}
+use borrow.Author.Rules.{rules}
+use Rattle.chip.proofs.Past.{no_chip}
+use Rattle.chip.specs.declared.Chip.{Chip}
+use Rattle.image.specs.Layout.{chip_record, head, records, image_of, over}
+use Rattle.image.proofs.Lists.{part_over, length_over}
+use Rattle.image.proofs.Records.{image_more, head_sixteen}
+use Rattle.image.proofs.writing.put_chain.Goals as goal
+
+-- HAND tie
+eight : (c : tie.Start invariant-loop decreases-loop) → length c.args.chain.chips ≡ 8
+eight c = sym (length-map c.args.chain.chips _) ∙ c.well_formed.1.0.1.1.1.0.1.0.1
+
+pub loop-i-init : goal.loop-i-init
+loop-i-init c =
+    let written : c.put_bytes.new.0 ≡ over c.args.image.now 0 (head c.args.chain) = c.put_bytes.ensures ∙ ap (over c.args.image.now 0) c.head_of-head.ensures in (
+      omega arith,
+      ap length written ∙ length_over c.args.image.now 0 (head c.args.chain) (omega (arith, head_sixteen c.args.chain, c.requires)) ∙ c.requires,
+      ap (take 16) written
+          ∙ take_at (head c.args.chain) (drop (0 + length (head c.args.chain)) c.args.image.now) 16 (head_sixteen c.args.chain)
+          ∙ sym (append-nil (head c.args.chain)),
+    )
+
+pub overflow_step-i : goal.overflow_step-i
+overflow_step-i c = omega arith
+
+pub loop-i-smaller : goal.loop-i-smaller
+loop-i-smaller c = omega arith
+
+pub shape_of-image : goal.shape_of-image
+shape_of-image c = c.loop-i.invariant.1 ∙ sym c.requires
+
+pub returns : goal.returns
+unfolding image_of
+returns c =
+    let at-end : c.loop-i.i ≡ 8 = omega arith in
+    sym (take_all 528 c.loop-i.image (omega (arith, c.loop-i.invariant.1)))
+    ∙ ap (λ (n : ℕ). take (16 + 64 * n) c.loop-i.image) (sym at-end)
+    ∙ c.loop-i.invariant.2
+    ∙ ap (λ (n : ℕ). head c.args.chain ++ records (take n c.args.chain.chips)) at-end
+    ∙ ap (λ cs. head c.args.chain ++ records cs) (take_all 8 c.args.chain.chips (omega (arith, eight c)))

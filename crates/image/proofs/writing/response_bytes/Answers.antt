@@ -1,0 +1,6 @@
+-- `image::writing::response_bytes` meets its contract.
+use borrow.Author.Rules.{rules}
+use Rattle.image.proofs.writing.response_bytes.Goals as goal
+
+pub returns-in-UnderWay : goal.returns-in-UnderWay
+returns-in-UnderWay c = simp c.in-UnderWay.is
