@@ -1,5 +1,4 @@
 -- `image::is_image` meets its contract.
-use borrow.Author.Rules.{rules}
 use borrow.Author.Tests.{ne_eqb}
 use Rattle.image.specs.Reading.{is_image}
 use Rattle.image.proofs.is_image.Goals as goal

@@ -1,16 +1,9 @@
 -- `image::form::has_records` meets its contract. The loop's invariant: every record passed so far is of the form.
 use mathlib.Core.Bool.{true}
-use mathlib.Core.List.{List}
-use mathlib.Core.Path.{◌≡◌, sym, ap, ◌∙◌}
+use mathlib.Core.Path.{◌≡◌}
 use Prim.Native.Nat.{ℕ, ◌+◌, ◌-◌, ◌*◌, ◌≤◌, ◌<◌}
-use native.Mathlib.Omega.{arith}
-use lib.ListN.{length, drop, length-drop}
-use lib.Seq.{take_all}
-use borrow.Author.Count.{below_none, below_more}
-use borrow.Author.Rules.{rules}
-use borrow.Author.Tests.{not-true, not-false}
-use Rattle.bits.proofs.Below.{every-all, every-not}
-use Rattle.image.specs.Reading.{record_form, records_form}
+use lib.ListN.{drop}
+use Rattle.image.specs.Reading.{record_form}
 use Rattle.image.proofs.form.has_records.Given as goal
 
 abbrev pub invariant-loop-i : goal.invariant-loop-i

@@ -1,5 +1,4 @@
 -- `image::form::is_record` meets its contract.
-use borrow.Author.Rules.{rules}
 use Rattle.image.specs.Reading.{record_form}
 use Rattle.image.proofs.form.is_record.Goals as goal
 

@@ -1,5 +1,4 @@
 -- `image::form::is_response` meets its contract.
-use borrow.Author.Rules.{rules}
 use Rattle.image.proofs.form.is_response.Goals as goal
 
 pub returns : goal.returns

@@ -1,8 +1,6 @@
 -- `image::form::is_zero` meets its contract. The loop's invariant: every byte passed so far is zero.
-use mathlib.Core.Path.{◌≡◌, sym}
-use Prim.Native.Nat.{ℕ, ◌-◌, ◌≤◌, ◌<◌}
+use mathlib.Core.Path.{sym}
 use native.Mathlib.Omega.{arith}
-use lib.ListN.{length, get_or}
 use borrow.Author.Count.{below_none, below_more}
 use Rattle.image.proofs.Lists.{zero_not, zero_each}
 use Rattle.image.proofs.form.is_zero.Goals as goal

@@ -1,5 +1,4 @@
 -- `image::reading::chain_in` meets its contract.
-use borrow.Author.Rules.{rules}
 use Rattle.image.specs.Reading.{chain_in}
 use Rattle.image.proofs.reading.chain_in.Goals as goal
 

@@ -1,5 +1,4 @@
 -- `image::reading::chip_in` meets its contract.
-use borrow.Author.Rules.{rules}
 use Rattle.image.specs.Reading.{chip_in}
 use Rattle.image.proofs.reading.chip_in.Goals as goal
 

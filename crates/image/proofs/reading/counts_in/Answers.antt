@@ -2,7 +2,6 @@
 use mathlib.Core.Path.{◌≡◌, sym, ◌∙◌}
 use native.Mathlib.Omega.{arith}
 use lib.ListN.{length, take, drop, replicate, length-take, length-drop}
-use borrow.Author.Rules.{rules}
 use Rattle.image.proofs.Lists.{over-all}
 use Rattle.image.proofs.reading.counts_in.Goals as goal
 

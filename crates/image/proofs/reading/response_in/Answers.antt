@@ -1,6 +1,5 @@
 -- `image::reading::response_in` meets its contract.
 use borrow.Author.Tests.{ne_eqb}
-use borrow.Author.Rules.{rules}
 use Rattle.image.specs.Reading.{response_in}
 use Rattle.image.proofs.reading.response_in.Goals as goal
 

@@ -1,5 +1,4 @@
 -- `image::writing::destination_bytes` meets its contract.
-use borrow.Author.Rules.{rules}
 use Rattle.image.proofs.writing.destination_bytes.Goals as goal
 
 pub returns-in-Level : goal.returns-in-Level

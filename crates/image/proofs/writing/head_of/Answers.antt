@@ -1,6 +1,5 @@
 -- `image::writing::head_of` meets its contract.
 use lib.ListN.{replicate}
-use borrow.Author.Rules.{rules}
 use Rattle.image.specs.Layout.{head}
 use Rattle.image.proofs.Records.{six}
 use Rattle.image.proofs.writing.head_of.Goals as goal

@@ -1,11 +1,8 @@
 -- `image::writing::put_bytes` meets its contract. The loop's invariant: the first k bytes have been copied.
-use mathlib.Core.Path.{◌≡◌, sym, ap, ◌∙◌}
-use Prim.Native.Nat.{◌+◌, ◌-◌, ◌≤◌}
-use native.Mathlib.Numerals.{add-one}
-use native.Mathlib.Omega.{arith}
-use lib.ListN.{length, get_or, set}
-use lib.Seq.{paste, paste-zero, paste-suc, length-paste}
-use Rattle.image.proofs.Lists.{paste_over}
+use mathlib.Core.Path.{◌≡◌}
+use Prim.Native.Nat.{◌-◌, ◌≤◌}
+use lib.ListN.{length}
+use lib.Seq.{paste}
 use Rattle.image.proofs.writing.put_bytes.Given as goal
 
 abbrev pub invariant-loop-k : goal.invariant-loop-k

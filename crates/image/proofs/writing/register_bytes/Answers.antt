@@ -1,6 +1,5 @@
 -- `image::writing::register_bytes` meets its contract.
 use lib.ListN.{replicate}
-use borrow.Author.Rules.{rules}
 use Rattle.image.proofs.Records.{three}
 use Rattle.image.proofs.writing.register_bytes.Goals as goal
 

@@ -1,5 +1,4 @@
 -- `image::writing::response_bytes` meets its contract.
-use borrow.Author.Rules.{rules}
 use Rattle.image.proofs.writing.response_bytes.Goals as goal
 
 pub returns-in-UnderWay : goal.returns-in-UnderWay
