@@ -1,5 +1,4 @@
 -- `chain::Chain::accepted` meets its contract.
-use borrow.Author.Rules.{rules}
 use Rattle.chain.specs.Events.{accepted}
 use Rattle.chain.proofs.Chain.accepted.Goals as goal
 

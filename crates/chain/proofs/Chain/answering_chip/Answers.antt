@@ -1,5 +1,4 @@
 -- `chain::Chain::answering_chip` meets its contract.
-use borrow.Author.Rules.{rules}
 use mathlib.Core.Path.{ap}
 use Rattle.response.specs.declared.Walk.{Walk}
 use Rattle.chain.specs.Walk.{answering_chip, walked_to}

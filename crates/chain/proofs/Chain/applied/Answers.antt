@@ -1,5 +1,4 @@
 -- `chain::Chain::applied` meets its contract.
-use borrow.Author.Rules.{rules}
 use Rattle.chain.specs.Apply.{applied}
 use Rattle.chain.proofs.Chain.applied.Goals as goal
 

@@ -1,5 +1,4 @@
 -- `chain::Chain::counted` meets its contract.
-use borrow.Author.Rules.{rules}
 use Rattle.chain.specs.Apply.{counted}
 use Rattle.chain.proofs.Rules.{chain_fields}
 use Rattle.chain.proofs.Chain.counted.Goals as goal

@@ -1,5 +1,4 @@
 -- `chain::Chain::eo_at` meets its contract.
-use borrow.Author.Rules.{rules}
 use Rattle.chain.proofs.Chain.eo_at.Goals as goal
 
 pub returns : goal.returns

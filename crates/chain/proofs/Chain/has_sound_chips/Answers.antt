@@ -1,11 +1,7 @@
 -- `chain::Chain::has_sound_chips` meets its contract. The loop's invariant: every chip passed so far is sound.
-use mathlib.Core.Bool.{true}
-use mathlib.Core.Path.{◌≡◌, sym, ◌∙◌}
-use Prim.Native.Nat.{ℕ, ◌-◌, ◌≤◌, ◌<◌}
+use mathlib.Core.Path.{◌≡◌, ap, sym, ◌∙◌}
 use native.Mathlib.Omega.{arith}
 use borrow.Author.Count.{below_none, below_more}
-use borrow.Author.Rules.{rules}
-use borrow.Author.Tests.{not-true, not-false}
 use Rattle.bits.proofs.Below.{every-all, every-not}
 use Rattle.chip.specs.Sound.{chip_sound}
 use Rattle.chain.specs.Fields.{chip_at}
@@ -15,14 +11,9 @@ use Rattle.chain.proofs.Chain.has_sound_chips.Goals as goal
 pub loop-i-init : goal.loop-i-init
 loop-i-init c = (omega arith, below_none _)
 
--- HAND tie
-test : (c : tie.After-is-sound invariant-loop decreases-loop) →
-    chip_sound (chip_at c.args.self c.loop-i.i) ≡ c.is_sound.result
-test c = simp (c.is_sound.ensures, c.chip_at-chip.ensures)
-
 pub returns-then-not-is_sound : goal.returns-then-not-is_sound
 unfolding chips_sound
-returns-then-not-is_sound c = sym (every-not c.args.self.count (λ k. chip_sound (chip_at c.args.self k)) c.loop-i.i c.loop-i-test.true (test c ∙ c.if-not-is_sound.true))
+returns-then-not-is_sound c = sym (every-not c.args.self.count (λ k. chip_sound (chip_at c.args.self k)) c.loop-i.i c.loop-i-test.true (ap chip_sound (sym c.chip_at-chip.ensures) ∙ sym c.is_sound.ensures ∙ c.if-not-is_sound.true))
 
 pub overflow_step-i : goal.overflow_step-i
 overflow_step-i c = omega arith
@@ -31,7 +22,7 @@ pub loop-i-smaller : goal.loop-i-smaller
 loop-i-smaller c = omega arith
 
 pub loop-i-preserved : goal.loop-i-preserved
-loop-i-preserved c = (omega arith, below_more _ _ c.loop-i.invariant.1 (test c ∙ c.if-not-is_sound.false))
+loop-i-preserved c = (omega arith, below_more _ _ c.loop-i.invariant.1 (ap chip_sound (sym c.chip_at-chip.ensures) ∙ sym c.is_sound.ensures ∙ c.if-not-is_sound.false))
 
 pub returns : goal.returns
 unfolding chips_sound

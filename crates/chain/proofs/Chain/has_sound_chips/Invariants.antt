@@ -1,15 +1,9 @@
 -- `chain::Chain::has_sound_chips` meets its contract. The loop's invariant: every chip passed so far is sound.
 use mathlib.Core.Bool.{true}
-use mathlib.Core.Path.{◌≡◌, sym, ◌∙◌}
+use mathlib.Core.Path.{◌≡◌}
 use Prim.Native.Nat.{ℕ, ◌-◌, ◌≤◌, ◌<◌}
-use native.Mathlib.Omega.{arith}
-use borrow.Author.Count.{below_none, below_more}
-use borrow.Author.Rules.{rules}
-use borrow.Author.Tests.{not-true, not-false}
-use Rattle.bits.proofs.Below.{every-all, every-not}
 use Rattle.chip.specs.Sound.{chip_sound}
 use Rattle.chain.specs.Fields.{chip_at}
-use Rattle.chain.specs.Sound.{chips_sound}
 use Rattle.chain.proofs.Chain.has_sound_chips.Given as goal
 
 abbrev pub invariant-loop-i : goal.invariant-loop-i

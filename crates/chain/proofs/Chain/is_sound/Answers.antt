@@ -1,6 +1,4 @@
 -- `chain::Chain::is_sound` meets its contract.
-use borrow.Author.Rules.{rules}
-use borrow.Author.Tests.{not-true, not-false}
 use Rattle.chain.specs.Sound.{sound}
 use Rattle.chain.proofs.Chain.is_sound.Goals as goal
 

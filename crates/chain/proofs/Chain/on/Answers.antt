@@ -1,7 +1,5 @@
 -- `chain::Chain::on` meets its contract.
 use mathlib.Core.Path.{sym, ◌∙◌}
-use borrow.Author.Rules.{rules}
-use borrow.Author.Tests.{not-true, not-false}
 use Rattle.chain.specs.Events.{event_of, judged}
 use Rattle.chain.specs.Refusals.{verdict_of}
 use Rattle.chain.proofs.Chain.on.Goals as goal

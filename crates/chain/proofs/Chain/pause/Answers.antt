@@ -1,5 +1,4 @@
 -- `chain::Chain::pause` meets its contract.
-use borrow.Author.Rules.{rules}
 use Rattle.chain.proofs.Chain.pause.Goals as goal
 
 pub returns : goal.returns

@@ -1,5 +1,4 @@
 -- `chain::Chain::replaced` meets its contract.
-use borrow.Author.Rules.{rules}
 use borrow.Author.Tests.{not-true, not-false}
 use Rattle.chain.specs.Apply.{replaced_in}
 use Rattle.chain.proofs.Chain.replaced.Goals as goal

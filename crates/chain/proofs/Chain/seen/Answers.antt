@@ -1,5 +1,4 @@
 -- `chain::Chain::seen` meets its contract.
-use borrow.Author.Rules.{rules}
 use Rattle.chain.proofs.Chain.seen.Goals as goal
 
 pub returns-in-Nowhere : goal.returns-in-Nowhere

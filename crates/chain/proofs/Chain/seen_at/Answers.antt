@@ -1,5 +1,4 @@
 -- `chain::Chain::seen_at` meets its contract.
-use borrow.Author.Rules.{rules}
 use Rattle.chain.specs.Seen.{seen_at}
 use Rattle.chain.proofs.Chain.seen_at.Goals as goal
 

@@ -1,5 +1,4 @@
 -- `chain::Chain::set` meets its contract.
-use borrow.Author.Rules.{rules}
 use borrow.Author.Tests.{not-true, not-false}
 use Rattle.chain.specs.Apply.{set_in}
 use Rattle.chain.proofs.Chain.set.Goals as goal

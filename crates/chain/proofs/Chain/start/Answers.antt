@@ -1,5 +1,4 @@
 -- `chain::Chain::start` meets its contract.
-use borrow.Author.Rules.{rules}
 use Rattle.chain.specs.Start.{start_of}
 use Rattle.chain.proofs.Chain.start.Goals as goal
 

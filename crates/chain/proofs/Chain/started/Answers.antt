@@ -1,5 +1,4 @@
 -- `chain::Chain::started` meets its contract.
-use borrow.Author.Rules.{rules}
 use Rattle.chain.specs.Start.{started}
 use Rattle.chain.proofs.Chain.started.Goals as goal
 

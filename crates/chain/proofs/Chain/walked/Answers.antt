@@ -1,8 +1,6 @@
 -- `chain::Chain::walked` meets its contract. The loop's invariant: the walk has come to chip i.
 use mathlib.Core.Path.{◌≡◌, refl, ap, ◌∙◌}
-use Prim.Native.Nat.{◌-◌, ◌≤◌}
 use native.Mathlib.Omega.{arith}
-use borrow.Author.Rules.{rules}
 use Rattle.chain.specs.Pins.{ei}
 use Rattle.chain.specs.Walk.{walked_to}
 use Rattle.chain.proofs.Along.{again}

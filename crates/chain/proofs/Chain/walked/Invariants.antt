@@ -1,11 +1,7 @@
 -- `chain::Chain::walked` meets its contract. The loop's invariant: the walk has come to chip i.
-use mathlib.Core.Path.{◌≡◌, refl, ap, ◌∙◌}
+use mathlib.Core.Path.{◌≡◌}
 use Prim.Native.Nat.{◌-◌, ◌≤◌}
-use native.Mathlib.Omega.{arith}
-use borrow.Author.Rules.{rules}
-use Rattle.chain.specs.Pins.{ei}
 use Rattle.chain.specs.Walk.{walked_to}
-use Rattle.chain.proofs.Along.{again}
 use Rattle.chain.proofs.Chain.walked.Given as goal
 
 abbrev pub invariant-loop-i : goal.invariant-loop-i

@@ -1,5 +1,4 @@
 -- `chain::Chain::zero` meets its contract.
-use borrow.Author.Rules.{rules}
 use Rattle.chain.proofs.Rules.{chain_fields}
 use Rattle.chain.proofs.Chain.zero.Goals as goal
 
