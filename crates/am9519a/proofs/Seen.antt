@@ -8,7 +8,7 @@ use lib.Dec.{ltb}
 use lib.ListN.{length}
 use borrow.Author.Tests.{lt-ltb, le-ltb}
 use Rattle.refusal.proofs.Numbers.{refused_already, accepted_so_far}
-use Rattle.refusal.specs.Numbers.{verdict_number, is_accepted, first_of}
+use Rattle.refusal.specs.Numbers.{verdict_number, is_accepted, first_of_list}
 use Rattle.refusal.specs.declared.Refusal.{Refusal}
 use Rattle.refusal.specs.declared.Refusal.TheVariants.{NotSound, ShortResults}
 use Rattle.refusal.specs.declared.Verdict.{Verdict}
@@ -34,7 +34,7 @@ short_buffer n view = (ltb (length view) n, ShortResults)
 -- 1, 2 and 11, for a view into a buffer of at least n bytes
 abbrev pub view_check : ℕ → List ℕ → ℕ → List ℕ → Verdict
 view_check n image chip view =
-    first_of (not_an_image image ∷ not_sound (chain_in image) ∷ no_such_chip (chain_in image).count chip ∷ short_buffer n view ∷ [])
+    first_of_list (not_an_image image ∷ not_sound (chain_in image) ∷ no_such_chip (chain_in image).count chip ∷ short_buffer n view ∷ [])
 
 -- what a call passes on, made of what its parts hand back, is what the model's view has
 pub passed_on : {A : Type 0} (of : Chain → A) (verdict : A → Verdict) (bytes : A → List ℕ) (image view : List ℕ) (s : Chain) (seen : A) (shown : List ℕ) →
@@ -53,13 +53,13 @@ of_image bytes shown none n image chip view long on = either (is_accepted (view_
     either : (ok : Bool) → is_accepted (view_verdict chip (chain_in image)) ≡ ok →
         viewed (view_verdict chip (chain_in image)) (bytes (cond ok shown none)) view ≡ called (view_check n image chip view) view (over view 0 (bytes shown))
     either true ok =
-        let goes_on : view_check n image chip view ≡ first_of (short_buffer n view ∷ []) =
-        ap (λ is. cond (not is) (Refused NotSound) (first_of (not_sound (chain_in image) ∷ no_such_chip (chain_in image).count chip ∷ short_buffer n view ∷ []))) on
+        let goes_on : view_check n image chip view ≡ first_of_list (short_buffer n view ∷ []) =
+        ap (λ is. cond (not is) (Refused NotSound) (first_of_list (not_sound (chain_in image) ∷ no_such_chip (chain_in image).count chip ∷ short_buffer n view ∷ []))) on
         ∙ accepted_so_far (not_sound (chain_in image) ∷ no_such_chip (chain_in image).count chip ∷ []) (short_buffer n view ∷ []) ok in
         simp (ok, long, goes_on)
     either false ok =
         let stops : view_check n image chip view ≡ view_verdict chip (chain_in image) =
-        ap (λ is. cond (not is) (Refused NotSound) (first_of (not_sound (chain_in image) ∷ no_such_chip (chain_in image).count chip ∷ short_buffer n view ∷ []))) on
+        ap (λ is. cond (not is) (Refused NotSound) (first_of_list (not_sound (chain_in image) ∷ no_such_chip (chain_in image).count chip ∷ short_buffer n view ∷ []))) on
         ∙ refused_already (not_sound (chain_in image) ∷ no_such_chip (chain_in image).count chip ∷ []) (short_buffer n view ∷ []) ok in
         simp (stops, ok)
 

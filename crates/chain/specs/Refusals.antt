@@ -1,6 +1,6 @@
 -- When an event is refused (document 01, "Numbers handed back"): 1 before all others, then the event's own tests.
 use Rattle.std.specs.Prelude.{Bool, not, ◌∷◌}
-use Rattle.refusal.specs.Numbers.{first_of}
+use Rattle.refusal.specs.Numbers.{first_of_list}
 use Rattle.refusal.specs.declared.Refusal.{Refusal}
 use Rattle.refusal.specs.declared.Refusal.TheVariants.{NotSound}
 use Rattle.refusal.specs.declared.Verdict.{Verdict}
@@ -16,4 +16,4 @@ not_sound s = (not (sound s), NotSound)
 
 -- the first that applies, or accepted
 unfoldable pub verdict_of : Event → Chain → Verdict
-verdict_of e s = first_of (not_sound s ∷ checks e (seen_by e s))
+verdict_of e s = first_of_list (not_sound s ∷ checks e (seen_by e s))

@@ -7,7 +7,7 @@ use Prim.Native.Nat.{ℕ, ◌<◌}
 use lib.Dec.{leb}
 use borrow.Author.Tests.{leb-false, not-false}
 use Rattle.refusal.proofs.Numbers.{not_both, passed_first, passed_rest, refused_already, accepted_so_far}
-use Rattle.refusal.specs.Numbers.{is_accepted, first_of}
+use Rattle.refusal.specs.Numbers.{is_accepted, first_of_list}
 use Rattle.refusal.specs.declared.Refusal.{Refusal}
 use Rattle.refusal.specs.declared.Refusal.TheVariants.{NoSuchChip, PulseUnderWay, IackThereAlready, NoDestination, PastItsCount}
 use Rattle.refusal.specs.declared.Verdict.{Verdict}
@@ -20,7 +20,7 @@ use Rattle.decide.specs.Refusals.{no_such_chip, no_such_channel, no_such_level, 
 use Rattle.decide.specs.declared.Seen.{Seen}
 
 -- tests of which the first is that of the chip: accepted, the chip is below the count
-pub named_below : (count i : ℕ) (rest : List (Bool × Refusal)) → first_of (no_such_chip count i ∷ rest) ≡ Accepted → i < count
+pub named_below : (count i : ℕ) (rest : List (Bool × Refusal)) → first_of_list (no_such_chip count i ∷ rest) ≡ Accepted → i < count
 named_below count i rest v = leb-false count i (passed_first (leb count i) NoSuchChip rest v)
 
 -- events 1 to 5 name a chip
@@ -49,10 +49,15 @@ pub passed_rise : (v : Seen) → verdict_on Rise v ≡ Accepted → v.iack ≡ f
 passed_rise v ok = passed_first v.iack IackThereAlready [] ok
 
 -- tests in two parts: where the first part refuses, that is the verdict; where it accepts, the rest decides
-pub refused-at_first : (first rest : List (Bool × Refusal)) (v : Verdict) (ok : Bool) → v ≡ first_of first → ok ≡ is_accepted v → ok ≡ false
-    → v ≡ first_of (first ++ rest)
-refused-at_first first rest v ok is told e = is ∙ sym (refused_already first rest (ap is_accepted (sym is) ∙ sym told ∙ e))
+pub refused_at_first : (first rest : List (Bool × Refusal)) (v : Verdict) (ok : Bool) → v ≡ first_of_list first → ok ≡ is_accepted v → ok ≡ false
+    → v ≡ first_of_list (first ++ rest)
+refused_at_first first rest v ok is told e = is ∙ sym (refused_already first rest (ap is_accepted (sym is) ∙ sym told ∙ e))
 
-pub left_to_the_rest : (first rest : List (Bool × Refusal)) (v : Verdict) (ok : Bool) → v ≡ first_of first → ok ≡ is_accepted v → ok ≡ true
-    → first_of (first ++ rest) ≡ first_of rest
+pub left_to_the_rest : (first rest : List (Bool × Refusal)) (v : Verdict) (ok : Bool) → v ≡ first_of_list first → ok ≡ is_accepted v → ok ≡ true
+    → first_of_list (first ++ rest) ≡ first_of_list rest
 left_to_the_rest first rest v ok is told e = accepted_so_far first rest (ap is_accepted (sym is) ∙ sym told ∙ e)
+
+pub rest_decides : (first rest : List (Bool × Refusal)) (v : Verdict) (ok : Bool) (r : Verdict) → v ≡ first_of_list first → ok ≡ is_accepted v → ok ≡ true
+    → r ≡ first_of_list rest
+    → r ≡ first_of_list (first ++ rest)
+rest_decides first rest v ok r is told e on = on ∙ sym (left_to_the_rest first rest v ok is told e)

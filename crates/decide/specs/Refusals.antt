@@ -1,7 +1,7 @@
 -- When an event is refused (document 01, "Numbers handed back"): each test of the table with its refusal, over what the test looks at, and which of them each
 -- event takes. (1, chain not sound, comes before all others: `chain/specs/Refusals`.)
 use Rattle.std.specs.Prelude.{Bool, not, List, [], ◌∷◌, ℕ, leb, ltb}
-use Rattle.refusal.specs.Numbers.{first_of}
+use Rattle.refusal.specs.Numbers.{first_of_list}
 use Rattle.refusal.specs.declared.Refusal.{Refusal}
 use Rattle.refusal.specs.declared.Refusal.TheVariants.{NoSuchChip, NoSuchChannel, NoSuchLevel, PulseUnderWay, IackThereAlready, UndefinedCommand, NoDestination, PastItsCount}
 use Rattle.refusal.specs.declared.Verdict.{Verdict}
@@ -57,4 +57,4 @@ checks Rise v = iack_there_already v.iack ∷ []
 
 -- the first that applies, or accepted
 abbrev pub verdict_on : Event → Seen → Verdict
-verdict_on e v = first_of (checks e v)
+verdict_on e v = first_of_list (checks e v)

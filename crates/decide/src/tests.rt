@@ -1,6 +1,6 @@
 // When an event on a sound chain is refused: the tests of the table, in its order, over what the event looks at.
 ghost use Rattle.std.specs.Prelude.{not, [], ◌∷◌, ◌≡◌};
-ghost use Rattle.refusal.specs.Numbers.{first_of};
+ghost use Rattle.refusal.specs.Numbers.{first_of_list};
 ghost use Rattle.decide.specs.Refusals.{no_such_chip, no_such_channel, no_such_level, pulse_under_way, iack_there_already, undefined_command, no_destination, past_its_count, verdict_on};
 
 use crate::Seen;
@@ -30,7 +30,7 @@ pub fn verdict(e: Event, seen: Seen) -> Verdict
 
 // Whatever names a chip: chip not below the count.
 pub fn chip_verdict(count: u8, i: u8) -> Verdict
-    ensures { result ≡ first_of (no_such_chip count i ∷ []) }
+    ensures { result ≡ first_of_list (no_such_chip count i ∷ []) }
 {
     if i >= count {
         return Verdict::Refused(Refusal::NoSuchChip);
@@ -40,7 +40,7 @@ pub fn chip_verdict(count: u8, i: u8) -> Verdict
 
 // Every access on the bus, and the whole verdict on a read: chip not below the count; IACK low.
 pub fn bus_verdict(count: u8, i: u8, iack: bool) -> Verdict
-    ensures { result ≡ first_of (no_such_chip count i ∷ pulse_under_way iack ∷ []) }
+    ensures { result ≡ first_of_list (no_such_chip count i ∷ pulse_under_way iack ∷ []) }
 {
     let named = chip_verdict(count, i);
     if !named.is_accepted() {
@@ -54,7 +54,7 @@ pub fn bus_verdict(count: u8, i: u8, iack: bool) -> Verdict
 
 // A command write.
 pub fn command_verdict(count: u8, i: u8, iack: bool, code: u8) -> Verdict
-    ensures { result ≡ first_of (no_such_chip count i ∷ pulse_under_way iack ∷ undefined_command code ∷ []) }
+    ensures { result ≡ first_of_list (no_such_chip count i ∷ pulse_under_way iack ∷ undefined_command code ∷ []) }
 {
     let bus = bus_verdict(count, i, iack);
     if !bus.is_accepted() {
@@ -68,7 +68,7 @@ pub fn command_verdict(count: u8, i: u8, iack: bool, code: u8) -> Verdict
 
 // A data write.
 pub fn data_verdict(count: u8, i: u8, iack: bool, chip: Chip) -> Verdict
-    ensures { result ≡ first_of (no_such_chip count i ∷ pulse_under_way iack ∷ no_destination chip ∷ past_its_count chip ∷ []) }
+    ensures { result ≡ first_of_list (no_such_chip count i ∷ pulse_under_way iack ∷ no_destination chip ∷ past_its_count chip ∷ []) }
 {
     let bus = bus_verdict(count, i, iack);
     if !bus.is_accepted() {
@@ -85,7 +85,7 @@ pub fn data_verdict(count: u8, i: u8, iack: bool, chip: Chip) -> Verdict
 
 // A line takes a level.
 pub fn line_verdict(count: u8, i: u8, channel: u8, level: u8) -> Verdict
-    ensures { result ≡ first_of (no_such_chip count i ∷ no_such_channel channel ∷ no_such_level level ∷ []) }
+    ensures { result ≡ first_of_list (no_such_chip count i ∷ no_such_channel channel ∷ no_such_level level ∷ []) }
 {
     let named = chip_verdict(count, i);
     if !named.is_accepted() {
@@ -99,7 +99,7 @@ pub fn line_verdict(count: u8, i: u8, channel: u8, level: u8) -> Verdict
 
 // The whole verdict on Enable In, and the last test of a line: level above 1.
 pub fn level_verdict(level: u8) -> Verdict
-    ensures { result ≡ first_of (no_such_level level ∷ []) }
+    ensures { result ≡ first_of_list (no_such_level level ∷ []) }
 {
     if level > 1 {
         return Verdict::Refused(Refusal::NoSuchLevel);
@@ -109,7 +109,7 @@ pub fn level_verdict(level: u8) -> Verdict
 
 // IACK falls: it is low already.
 pub fn fall_verdict(iack: bool) -> Verdict
-    ensures { result ≡ first_of (iack_there_already (not iack) ∷ []) }
+    ensures { result ≡ first_of_list (iack_there_already (not iack) ∷ []) }
 {
     if !iack {
         return Verdict::Refused(Refusal::IackThereAlready);
@@ -119,7 +119,7 @@ pub fn fall_verdict(iack: bool) -> Verdict
 
 // IACK rises: it is high already.
 pub fn rise_verdict(iack: bool) -> Verdict
-    ensures { result ≡ first_of (iack_there_already iack ∷ []) }
+    ensures { result ≡ first_of_list (iack_there_already iack ∷ []) }
 {
     if iack {
         return Verdict::Refused(Refusal::IackThereAlready);

@@ -11,7 +11,7 @@ use lib.Seq.{drop_at}
 use borrow.Author.Tests.{not-false, leb-false}
 use Rattle.bits.proofs.Below.{either}
 use Rattle.refusal.proofs.Numbers.{not_zero, not_both, passed_first, passed_rest, accepted_is}
-use Rattle.refusal.specs.Numbers.{verdict_number, is_accepted, first_of}
+use Rattle.refusal.specs.Numbers.{verdict_number, is_accepted, first_of_list}
 use Rattle.refusal.specs.declared.Refusal.TheVariants.{NotSound, NoSuchChip, BrokenEvent, ShortResults}
 use Rattle.refusal.specs.declared.Verdict.{Verdict}
 use Rattle.refusal.specs.declared.Verdict.TheVariants.{Accepted, Refused}
@@ -88,10 +88,10 @@ view_rest (Refused why) view new n is = refl
 
 -- one that is accepted is of an image, of a sound chain, and of a chip in its count
 seen : (n : ℕ) (image : List ℕ) (chip : ℕ) (view : List ℕ) (s : Chain)
-    → first_of (not_an_image image ∷ not_sound s ∷ no_such_chip s.count chip ∷ short_buffer n view ∷ []) ≡ Accepted
+    → first_of_list (not_an_image image ∷ not_sound s ∷ no_such_chip s.count chip ∷ short_buffer n view ∷ []) ≡ Accepted
     → (is_image image ≡ true) × ((sound s ≡ true) × (chip < s.count))
 seen n image chip view s is =
-    let rest : first_of (not_sound s ∷ no_such_chip s.count chip ∷ short_buffer n view ∷ []) ≡ Accepted =
+    let rest : first_of_list (not_sound s ∷ no_such_chip s.count chip ∷ short_buffer n view ∷ []) ≡ Accepted =
     passed_rest (not (is_image image)) NotSound (not_sound s ∷ no_such_chip s.count chip ∷ short_buffer n view ∷ []) is in (
       not-false (is_image image) (passed_first (not (is_image image)) NotSound (not_sound s ∷ no_such_chip s.count chip ∷ short_buffer n view ∷ []) is),
       (
@@ -114,8 +114,8 @@ bytes_agree t p table picture a =
 
 -- a run: which numbers come before any event
 before-first : (a b c : Bool)
-    → is_before_any (verdict_number (first_of ((a, NotSound) ∷ (b, BrokenEvent) ∷ (c, ShortResults) ∷ [])))
-    ≡ not (is_accepted (first_of ((a, NotSound) ∷ (b, BrokenEvent) ∷ (c, ShortResults) ∷ [])))
+    → is_before_any (verdict_number (first_of_list ((a, NotSound) ∷ (b, BrokenEvent) ∷ (c, ShortResults) ∷ [])))
+    ≡ not (is_accepted (first_of_list ((a, NotSound) ∷ (b, BrokenEvent) ∷ (c, ShortResults) ∷ [])))
 before-first true b c = refl
 before-first false true c = refl
 before-first false false true = refl
@@ -146,7 +146,7 @@ run_later : (s : Chain) (events : List ℕ) (limit : ℕ) (results : List ℕ) �
 unfolding before_any
 run_later s events limit results on =
     let is : sound s ≡ true = before_any_lem.before-sound s events results on in
-    let rest : first_of (broken_event (length events) ∷ short_results (length events) (length results) ∷ []) ≡ Accepted =
+    let rest : first_of_list (broken_event (length events) ∷ short_results (length events) (length results) ∷ []) ≡ Accepted =
     passed_rest (not (sound s)) NotSound (broken_event (length events) ∷ short_results (length events) (length results) ∷ []) (accepted_is _ on) in
     let whole : (broken_event (length events)).0 ≡ false = passed_first (broken_event (length events)).0 BrokenEvent (short_results (length events) (length results) ∷ []) rest in
     let room : (short_results (length events) (length results)).0 ≡ false =

@@ -14,7 +14,7 @@ use Rattle.search.specs.Candidate.{candidate, candidate_number, channel_of, sear
 use Rattle.search.specs.declared.Candidate.{Candidate}
 use Rattle.search.specs.declared.Candidate.TheVariants.{Channel, Nobody}
 use Rattle.refusal.proofs.Numbers.{not_both}
-use Rattle.refusal.specs.Numbers.{refusal_number, verdict_number, is_accepted, first_of}
+use Rattle.refusal.specs.Numbers.{refusal_number, verdict_number, is_accepted, first_of_list}
 use Rattle.refusal.specs.declared.Refusal.{Refusal}
 use Rattle.refusal.specs.declared.Verdict.{Verdict}
 use Rattle.refusal.specs.declared.Verdict.TheVariants.{Accepted}
@@ -44,7 +44,7 @@ abbrev pub entries : List (Bool × Refusal) → List Entry
 entries [] = []
 entries (check ∷ checks) = (refusal_number check.1, check.0) ∷ entries checks
 
-pub first-given : (l : List (Bool × Refusal)) → verdict_number (first_of l) ≡ given (entries l)
+pub first-given : (l : List (Bool × Refusal)) → verdict_number (first_of_list l) ≡ given (entries l)
 first-given [] = refl
 first-given ((true, why) ∷ l) = refl
 first-given ((false, why) ∷ l) = first-given l
@@ -79,12 +79,12 @@ start_number count fill =
     (λ outside. rw outside refl)
 
 -- a run: the tests before any event decide, or what is left to the event where it ended
-decided : (l : List (Bool × Refusal)) (rest : List Entry) → is_accepted (first_of l) ≡ false → given (entries l ++ rest) ≡ verdict_number (first_of l)
+decided : (l : List (Bool × Refusal)) (rest : List Entry) → is_accepted (first_of_list l) ≡ false → given (entries l ++ rest) ≡ verdict_number (first_of_list l)
 decided [] rest e = not_both (sym e)
 decided ((true, why) ∷ l) rest e = refl
 decided ((false, why) ∷ l) rest e = decided l rest e
 
-left_over : (l : List (Bool × Refusal)) (rest : List Entry) → is_accepted (first_of l) ≡ true → given (entries l ++ rest) ≡ given rest
+left_over : (l : List (Bool × Refusal)) (rest : List Entry) → is_accepted (first_of_list l) ≡ true → given (entries l ++ rest) ≡ given rest
 left_over [] rest e = refl
 left_over ((true, why) ∷ l) rest e = not_both e
 left_over ((false, why) ∷ l) rest e = left_over l rest e

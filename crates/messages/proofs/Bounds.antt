@@ -22,7 +22,7 @@ use Rattle.text.proofs.InOtherForm.{length_cast}
 use Rattle.text.proofs.Places.{line_le}
 use Rattle.text.specs.Cast.{cast}
 use Rattle.text.specs.Tables.{line_in}
-use Rattle.text.specs.Written.{text, joined, field}
+use Rattle.text.specs.Written.{text, joined}
 use Rattle.text.specs.declared.Way.TheVariants.{Shown}
 
 pub refused_le : (line : ℕ) (step : Numbered) (why : Refusal) → length (refused_line line step why) ≤ 1024

@@ -59,7 +59,7 @@ use Rattle.event.specs.Counting.{next_number}
 use Rattle.event.specs.Numbers.{listed, in_numbers}
 use Rattle.event.specs.declared.Event.TheVariants.{Command, Status, Read, Line, Enable, Rise}
 use Rattle.event.specs.declared.Event.{Event}
-use Rattle.refusal.specs.Numbers.{first_of}
+use Rattle.refusal.specs.Numbers.{first_of_list}
 use Rattle.response.proofs.Response.ends_by.Reads as response_ends_by
 use Rattle.response.proofs.Response.eo_of.Reads as response_eo_of
 use Rattle.response.proofs.Response.is_idle.Reads as response_is_idle
@@ -161,18 +161,18 @@ pub record OnePart : Type 0 where
   -- decide: where an event looks, the verdict on it, and what those do that ask for nothing
   pub look_of_outcome : (e : Event) (r : Response) → Determined look_of_outcome.Asked look_of_outcome.Post tt (e, (r, tt)) (look_of e r)
   pub verdict : (e : Event) (v : Seen) → Determined verdict.Asked verdict.Post tt (e, (v, tt)) (verdict_on e v)
-  pub chip_verdict : (count i : ℕ) → Determined chip_verdict.Asked chip_verdict.Post tt (count, (i, tt)) (first_of (no_such_chip count i ∷ []))
+  pub chip_verdict : (count i : ℕ) → Determined chip_verdict.Asked chip_verdict.Post tt (count, (i, tt)) (first_of_list (no_such_chip count i ∷ []))
   pub bus_verdict : (count i : ℕ) (iack : Bool)
-      → Determined bus_verdict.Asked bus_verdict.Post tt (count, (i, (iack, tt))) (first_of (no_such_chip count i ∷ pulse_under_way iack ∷ []))
+      → Determined bus_verdict.Asked bus_verdict.Post tt (count, (i, (iack, tt))) (first_of_list (no_such_chip count i ∷ pulse_under_way iack ∷ []))
   pub command_verdict : (count i : ℕ) (iack : Bool) (code : ℕ)
-      → Determined command_verdict.Asked command_verdict.Post tt (count, (i, (iack, (code, tt)))) (first_of (no_such_chip count i ∷ pulse_under_way iack ∷ undefined_command code ∷ []))
+      → Determined command_verdict.Asked command_verdict.Post tt (count, (i, (iack, (code, tt)))) (first_of_list (no_such_chip count i ∷ pulse_under_way iack ∷ undefined_command code ∷ []))
   pub data_verdict : (count i : ℕ) (iack : Bool) (c : Chip)
-      → Determined data_verdict.Asked data_verdict.Post tt (count, (i, (iack, (c, tt)))) (first_of (no_such_chip count i ∷ pulse_under_way iack ∷ no_destination c ∷ past_its_count c ∷ []))
+      → Determined data_verdict.Asked data_verdict.Post tt (count, (i, (iack, (c, tt)))) (first_of_list (no_such_chip count i ∷ pulse_under_way iack ∷ no_destination c ∷ past_its_count c ∷ []))
   pub line_verdict : (count i channel level : ℕ)
-      → Determined line_verdict.Asked line_verdict.Post tt (count, (i, (channel, (level, tt)))) (first_of (no_such_chip count i ∷ no_such_channel channel ∷ no_such_level level ∷ []))
-  pub level_verdict : (level : ℕ) → Determined level_verdict.Asked level_verdict.Post tt (level, tt) (first_of (no_such_level level ∷ []))
-  pub fall_verdict : (iack : Bool) → Determined fall_verdict.Asked fall_verdict.Post tt (iack, tt) (first_of (iack_there_already (not iack) ∷ []))
-  pub rise_verdict : (iack : Bool) → Determined rise_verdict.Asked rise_verdict.Post tt (iack, tt) (first_of (iack_there_already iack ∷ []))
+      → Determined line_verdict.Asked line_verdict.Post tt (count, (i, (channel, (level, tt)))) (first_of_list (no_such_chip count i ∷ no_such_channel channel ∷ no_such_level level ∷ []))
+  pub level_verdict : (level : ℕ) → Determined level_verdict.Asked level_verdict.Post tt (level, tt) (first_of_list (no_such_level level ∷ []))
+  pub fall_verdict : (iack : Bool) → Determined fall_verdict.Asked fall_verdict.Post tt (iack, tt) (first_of_list (iack_there_already (not iack) ∷ []))
+  pub rise_verdict : (iack : Bool) → Determined rise_verdict.Asked rise_verdict.Post tt (iack, tt) (first_of_list (iack_there_already iack ∷ []))
   pub seen_command : (v : Seen) (i code : ℕ) → Determined seen_command.Asked seen_command.Post tt (v, (i, (code, tt))) (decided (Command i code) v)
   pub seen_status : (v : Seen) (i : ℕ) → Determined seen_status.Asked seen_status.Post tt (v, (i, tt)) (decided (Status i) v)
   pub seen_read : (v : Seen) (i : ℕ) → Determined seen_read.Asked seen_read.Post tt (v, (i, tt)) (decided (Read i) v)
@@ -191,4 +191,4 @@ pub record OnePart : Type 0 where
   pub response_bytes_outcome : (r : Response) → Determined response_bytes_outcome.Asked response_bytes_outcome.Post tt (r, tt) (response_bytes r)
   -- run: what refuses a run of any chain, any length of its list and any room, before any event
   pub before_any_outcome : (s : Chain) (length room : ℕ)
-      → Determined before_any_outcome.Asked before_any_outcome.Post tt (s, (length, (room, tt))) (first_of (not_sound s ∷ broken_event length ∷ short_results length room ∷ []))
+      → Determined before_any_outcome.Asked before_any_outcome.Post tt (s, (length, (room, tt))) (first_of_list (not_sound s ∷ broken_event length ∷ short_results length room ∷ []))

@@ -4,7 +4,7 @@ use mathlib.Core.Bool.{Bool, true, false, false≢true}
 use mathlib.Core.List.{List, [], ◌∷◌, ◌++◌}
 use mathlib.Core.Path.{◌≡◌, refl, ap, sym}
 use native.Mathlib.Omega.{arith}
-use Rattle.refusal.specs.Numbers.{refusal_number, is_accepted, first_of}
+use Rattle.refusal.specs.Numbers.{refusal_number, is_accepted, first_of_list}
 use Rattle.refusal.specs.declared.Refusal.{Refusal}
 use Rattle.refusal.specs.declared.Refusal.TheVariants.{NotSound, NoSuchChip, NoSuchChannel, NoSuchLevel, PulseUnderWay, IackThereAlready, UndefinedCommand, NoDestination, PastItsCount, BrokenEvent, ShortResults, UnknownKind}
 use Rattle.refusal.specs.declared.Verdict.{Verdict}
@@ -30,11 +30,11 @@ pub not_both : {A : Type 0} → false ≡ true → A
 not_both e = absurd (false≢true e)
 
 -- tests that accept have each been passed
-pub passed_first : (b : Bool) (why : Refusal) (l : List (Bool × Refusal)) → first_of ((b, why) ∷ l) ≡ Accepted → b ≡ false
+pub passed_first : (b : Bool) (why : Refusal) (l : List (Bool × Refusal)) → first_of_list ((b, why) ∷ l) ≡ Accepted → b ≡ false
 passed_first true why l e = not_both (ap is_accepted e)
 passed_first false why l e = refl
 
-pub passed_rest : (b : Bool) (why : Refusal) (l : List (Bool × Refusal)) → first_of ((b, why) ∷ l) ≡ Accepted → first_of l ≡ Accepted
+pub passed_rest : (b : Bool) (why : Refusal) (l : List (Bool × Refusal)) → first_of_list ((b, why) ∷ l) ≡ Accepted → first_of_list l ≡ Accepted
 passed_rest true why l e = not_both (ap is_accepted e)
 passed_rest false why l e = e
 
@@ -44,12 +44,12 @@ accepted_is Accepted e = refl
 accepted_is (Refused why) e = not_both e
 
 -- tests in two parts: where the first part refuses, that is the verdict; where it accepts, the second part decides
-pub refused_already : (l₁ l₂ : List (Bool × Refusal)) → is_accepted (first_of l₁) ≡ false → first_of (l₁ ++ l₂) ≡ first_of l₁
+pub refused_already : (l₁ l₂ : List (Bool × Refusal)) → is_accepted (first_of_list l₁) ≡ false → first_of_list (l₁ ++ l₂) ≡ first_of_list l₁
 refused_already [] l₂ e = not_both (sym e)
 refused_already ((true, why) ∷ l₁) l₂ e = refl
 refused_already ((false, why) ∷ l₁) l₂ e = refused_already l₁ l₂ e
 
-pub accepted_so_far : (l₁ l₂ : List (Bool × Refusal)) → is_accepted (first_of l₁) ≡ true → first_of (l₁ ++ l₂) ≡ first_of l₂
+pub accepted_so_far : (l₁ l₂ : List (Bool × Refusal)) → is_accepted (first_of_list l₁) ≡ true → first_of_list (l₁ ++ l₂) ≡ first_of_list l₂
 accepted_so_far [] l₂ e = refl
 accepted_so_far ((true, why) ∷ l₁) l₂ e = not_both e
 accepted_so_far ((false, why) ∷ l₁) l₂ e = accepted_so_far l₁ l₂ e

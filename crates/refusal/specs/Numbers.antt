@@ -28,6 +28,6 @@ is_accepted Accepted = true
 is_accepted (Refused why) = false
 
 -- of a list of tests, each with the refusal that it gives, the first that applies; accepted if none does
-abbrev pub first_of : List (Bool × Refusal) → Verdict
-first_of [] = Accepted
-first_of (check ∷ checks) = cond check.0 (Refused check.1) (first_of checks)
+abbrev pub first_of_list : List (Bool × Refusal) → Verdict
+first_of_list [] = Accepted
+first_of_list (check ∷ checks) = cond check.0 (Refused check.1) (first_of_list checks)

@@ -1,6 +1,6 @@
 -- A run (document 01, "Views and runs"): it stops at the limit, the end or the first refusal, and keeps what it accepted.
 use Rattle.std.specs.Prelude.{Bool, not, cond, List, [], ◌∷◌, ℕ, zero, suc, ◌+◌, ◌*◌, ◌/◌, ◌%◌, min, eqb, ltb, length, set}
-use Rattle.refusal.specs.Numbers.{is_accepted, first_of}
+use Rattle.refusal.specs.Numbers.{is_accepted, first_of_list}
 use Rattle.refusal.specs.declared.Refusal.{Refusal}
 use Rattle.refusal.specs.declared.Refusal.TheVariants.{BrokenEvent, ShortResults, UnknownKind}
 use Rattle.refusal.specs.declared.Verdict.{Verdict}
@@ -35,7 +35,7 @@ short_results n room = (ltb room (2 * (n / 4)), ShortResults)
 
 -- what a run takes before any event
 unfoldable pub before_any : Chain → List ℕ → List ℕ → Verdict
-before_any s bytes results = first_of (not_sound s ∷ broken_event (length bytes) ∷ short_results (length bytes) (length results) ∷ [])
+before_any s bytes results = first_of_list (not_sound s ∷ broken_event (length bytes) ∷ short_results (length bytes) (length results) ∷ [])
 
 -- a listed event: 12, kind outside 1 to 8, before the event's own refusals
 abbrev pub listed_outcome : Listed → Chain → Outcome

@@ -7,7 +7,7 @@ mod list;
 pub mod on_image;
 
 ghost use Rattle.std.specs.Prelude.{[], ◌∷◌, ◌≡◌};
-ghost use Rattle.refusal.specs.Numbers.{first_of};
+ghost use Rattle.refusal.specs.Numbers.{first_of_list};
 ghost use Rattle.chain.specs.Refusals.{not_sound};
 ghost use Rattle.run.specs.Run.{broken_event, short_results, run_of};
 
@@ -57,7 +57,7 @@ impl Ran {
 
 // 1, 10 and 11 come before any event: for a list of so many bytes, and so much room for results.
 pub fn before_any(chain: Chain, length: usize, room: usize) -> Verdict
-    ensures { result ≡ first_of (not_sound chain ∷ broken_event length ∷ short_results length room ∷ []) }
+    ensures { result ≡ first_of_list (not_sound chain ∷ broken_event length ∷ short_results length room ∷ []) }
 {
     if !chain.is_sound() {
         return Verdict::Refused(Refusal::NotSound);

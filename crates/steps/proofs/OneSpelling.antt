@@ -3,11 +3,11 @@
 use mathlib.Core.Bool.{Bool, true, false, cond, not, ◌&&◌, false≢true}
 use mathlib.Core.List.{List, [], ◌∷◌, ◌++◌}
 use mathlib.Core.Path.{◌≡◌, refl, sym, ap, ap₂, ◌∙◌}
-use Prim.Native.Nat.{ℕ, ◌+◌, ◌-◌, ◌≤◌}
+use Prim.Native.Nat.{ℕ, ◌-◌, ◌≤◌}
 use native.Mathlib.Omega.{arith}
 use borrow.Author.Tests.{le-ltb}
 use lib.Dec.{eqb, ltb}
-use lib.ListN.{length, get_or, take, drop}
+use lib.ListN.{length, get_or, take}
 use lib.Seq.{take-length}
 use Rattle.bits.proofs.Below.{both_left, both_right}
 use Rattle.event.specs.Numbers.{numbered, in_numbers}
@@ -17,14 +17,13 @@ use Rattle.event.specs.declared.Numbered.{Numbered}
 use Rattle.text.proofs.ReadBack.{each, each_append, each_at, plain_byte, plain, decimal_back, hex_back, number_back}
 use Rattle.text.specs.Tables.{place_in}
 use Rattle.text.specs.Words.{is_letter, lead, line_end, word_start, word_end, word, behind, decimal_in, hex_in}
-use Rattle.text.specs.Written.{joined, decimal, hex_byte}
-use Rattle.text.specs.declared.Number.{Number}
+use Rattle.text.specs.Written.{decimal, hex_byte}
 use Rattle.text.specs.declared.Number.TheVariants.{Value}
 use Rattle.text.specs.declared.Sort.TheVariants.{Letter}
 use Rattle.steps.specs.Kinds.{name_of, kind_of, form_of}
-use Rattle.steps.specs.Lines.{value_of, behind_argument, is_over, made, step_from, read_by, read_as, step_in, text_end, step_of}
+use Rattle.steps.specs.Lines.{value_of, behind_argument, is_over, step_from, read_by, read_as, step_in, text_end, step_of}
 use Rattle.steps.specs.OneSpelling.{InBytes, OneSpelling}
-use Rattle.steps.specs.Spelled.{spelled_as, spelled_parts, spelled}
+use Rattle.steps.specs.Spelled.{spelled_as, spelled}
 use Rattle.steps.specs.declared.Argument.{Argument}
 use Rattle.steps.specs.declared.Argument.TheVariants.{Count, Fill, Chip, Code, Byte, Channel, Level, End}
 use Rattle.steps.specs.declared.Expected.TheVariants.{Shorter}

@@ -2,8 +2,8 @@
 -- Assumes nothing.
 use mathlib.Core.Bool.{Bool, true, false, cond, not, ◌&&◌, ◌||◌, false≢true}
 use mathlib.Core.List.{List, [], ◌∷◌, ◌++◌}
-use mathlib.Core.Path.{◌≡◌, refl, sym, ap, ap₂, ◌∙◌}
-use Prim.Native.Nat.{ℕ, zero, suc, ◌+◌, ◌-◌, ◌≤◌, ◌<◌}
+use mathlib.Core.Path.{◌≡◌, refl, ap, ap₂, ◌∙◌}
+use Prim.Native.Nat.{ℕ, zero, suc, ◌+◌, ◌-◌, ◌≤◌}
 use native.Mathlib.Omega.{arith}
 use borrow.Author.Tests.{eqb-true}
 use lib.Dec.{eqb, ltb}
@@ -11,7 +11,7 @@ use lib.ListN.{length, get_or, take, drop}
 use lib.Seq.{take_at, drop_at}
 use Rattle.bits.proofs.Below.{both_left, both_right, every_each}
 use Rattle.bits.specs.Below.{every}
-use Rattle.text.specs.Words.{is_blank, is_letter, lead, word_start, word_end, word, behind, decimal_in, hex_in}
+use Rattle.text.specs.Words.{is_blank, is_letter, lead, word_start, word_end, word, decimal_in, hex_in}
 use Rattle.text.specs.Written.{decimal, hex_byte}
 use Rattle.text.specs.declared.Number.{Number}
 use Rattle.text.specs.declared.Number.TheVariants.{Value, Wrong}

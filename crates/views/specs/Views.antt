@@ -2,7 +2,7 @@
 use Rattle.std.specs.Prelude.{cond, [], ◌∷◌, ℕ}
 use Rattle.bits.specs.Below.{digit}
 use Rattle.chip.specs.Status.{status_byte, waiting_number}
-use Rattle.refusal.specs.Numbers.{first_of, is_accepted}
+use Rattle.refusal.specs.Numbers.{first_of_list, is_accepted}
 use Rattle.refusal.specs.declared.Verdict.{Verdict}
 use Rattle.decide.specs.Refusals.{no_such_chip}
 use Rattle.chain.specs.Refusals.{not_sound}
@@ -50,7 +50,7 @@ no_picture = record { event = 0; ei = 0; eo = 0; gint = 0; rip = 0; pause = 0; i
 
 -- a view names a chip, so it takes refusals 1 and 2
 abbrev pub view_verdict : ℕ → Chain → Verdict
-view_verdict i s = first_of (not_sound s ∷ no_such_chip s.count i ∷ [])
+view_verdict i s = first_of_list (not_sound s ∷ no_such_chip s.count i ∷ [])
 
 -- the register view of chip i
 unfoldable pub register_view : ℕ → Chain → RegisterView

@@ -1,14 +1,9 @@
 -- `text::cast::put_cast` meets its contract. The loop's invariant: the whole is what is left of the text, in its other form, written behind what has been.
-use mathlib.Core.List.{[], ◌∷◌}
-use mathlib.Core.Path.{◌≡◌, refl, sym, ap, ◌∙◌}
-use Prim.Native.Nat.{◌+◌, ◌-◌, ◌≤◌}
-use borrow.Author.Rules.{rules}
-use native.Mathlib.Omega.{arith}
+use mathlib.Core.Path.{◌≡◌}
+use Prim.Native.Nat.{◌-◌, ◌≤◌}
 use lib.ListN.{length, drop}
 use Rattle.text.specs.Cast.{cast}
 use Rattle.text.specs.Written.{written}
-use Rattle.text.proofs.InOtherForm.{cast_more, cast_end}
-use Rattle.text.proofs.Written.{length-written}
 use Rattle.text.proofs.cast.put_cast.Given as goal
 
 abbrev pub invariant-loop-k : goal.invariant-loop-k

@@ -1,11 +1,8 @@
 -- `text::numbers::decimal_in` meets its contract.
-use mathlib.Core.Path.{◌≡◌, sym, ◌∙◌}
-use Prim.Native.Nat.{◌+◌, ◌-◌, ◌≤◌}
+use mathlib.Core.Path.{sym, ◌∙◌}
+use Prim.Native.Nat.{◌+◌}
 use native.Mathlib.Omega.{arith}
-use borrow.Author.Rules.{rules}
-use borrow.Author.Tests.{not-true, not-false}
-use lib.ListN.{length, get_or, drop}
-use Rattle.text.specs.Words.{decimal_in, decimal_from}
+use lib.ListN.{get_or, drop}
 use Rattle.text.proofs.Reading.{digit_is, decimal_none, decimal_some, decimal_more, decimal_other, decimal_above, decimal-ends}
 use Rattle.text.proofs.numbers.decimal_in.Goals as goal
 

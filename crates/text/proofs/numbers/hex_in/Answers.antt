@@ -1,7 +1,6 @@
 -- `text::numbers::hex_in` meets its contract.
 use mathlib.Core.Path.{sym, ◌∙◌}
 use Rattle.text.proofs.Reading.{hex_one, hex_two, hex_other}
-use borrow.Author.Rules.{rules}
 use Rattle.text.proofs.numbers.hex_in.Goals as goal
 
 pub returns-then-word-eq1 : goal.returns-then-word-eq1

@@ -3,7 +3,6 @@ use mathlib.Core.Path.{sym, ◌∙◌}
 use native.Mathlib.Omega.{arith}
 use borrow.Author.Tests.{leb-true}
 use Rattle.bits.proofs.Below.{both_left}
-use borrow.Author.Rules.{rules}
 use Rattle.text.proofs.numbers.hex_value.Goals as goal
 
 pub overflow_sub-result : goal.overflow_sub-result

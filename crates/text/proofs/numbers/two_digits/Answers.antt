@@ -4,7 +4,6 @@ use native.Mathlib.Omega.{arith}
 use borrow.Author.Tests.{leb-true}
 use lib.Dec.{leb}
 use Rattle.bits.proofs.Below.{both_left, both_right}
-use borrow.Author.Rules.{rules}
 use Rattle.text.proofs.numbers.two_digits.Goals as goal
 
 pub overflow_mul-result : goal.overflow_mul-result

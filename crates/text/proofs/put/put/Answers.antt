@@ -1,10 +1,7 @@
 -- `text::put::put` meets its contract. The loop's invariant: the whole is what is left of the text, written behind what has been.
-use mathlib.Core.Path.{◌≡◌, refl, sym, ◌∙◌}
-use Prim.Native.Nat.{◌-◌, ◌≤◌}
+use mathlib.Core.Path.{refl, sym, ◌∙◌}
 use native.Mathlib.Omega.{arith}
-use borrow.Author.Tests.{ltb-true, ltb-false}
-use lib.ListN.{length, drop, length-set}
-use Rattle.text.specs.Written.{written}
+use lib.ListN.{drop, length-set}
 use Rattle.text.proofs.Written.{written_more, written_end, written_full}
 use Rattle.text.proofs.put.put.Goals as goal
 

@@ -1,11 +1,8 @@
 -- `text::put::put` meets its contract. The loop's invariant: the whole is what is left of the text, written behind what has been.
-use mathlib.Core.Path.{◌≡◌, refl, sym, ◌∙◌}
+use mathlib.Core.Path.{◌≡◌}
 use Prim.Native.Nat.{◌-◌, ◌≤◌}
-use native.Mathlib.Omega.{arith}
-use borrow.Author.Tests.{ltb-true, ltb-false}
-use lib.ListN.{length, drop, length-set}
+use lib.ListN.{length, drop}
 use Rattle.text.specs.Written.{written}
-use Rattle.text.proofs.Written.{written_more, written_end, written_full}
 use Rattle.text.proofs.put.put.Given as goal
 
 abbrev pub invariant-loop-k : goal.invariant-loop-k

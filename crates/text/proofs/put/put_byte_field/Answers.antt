@@ -2,7 +2,6 @@
 use mathlib.Core.Path.{sym, ◌∙◌}
 use Rattle.text.specs.Written.{hex_byte}
 use Rattle.text.proofs.Written.{again, written-append}
-use borrow.Author.Rules.{rules}
 use Rattle.text.proofs.put.put_byte_field.Goals as goal
 
 pub returns : goal.returns

@@ -1,5 +1,4 @@
 -- `text::put::put_hex` meets its contract.
-use borrow.Author.Rules.{rules}
 use Rattle.text.specs.Written.{hex_byte}
 use Rattle.text.proofs.put.put_hex.Goals as goal
 

@@ -1,11 +1,9 @@
 -- `text::put::spell` meets its contract. The loop's invariant: the digits still to come, before those that stand there, are the number's.
 use mathlib.Core.List.{◌++◌}
 use mathlib.Core.Path.{◌≡◌, sym, ap, ◌∙◌}
-use Prim.Native.Nat.{ℕ, ◌≤◌}
+use Prim.Native.Nat.{ℕ}
 use native.Mathlib.Omega.{arith}
-use borrow.Author.Tests.{ltb-true, ltb-false}
-use lib.ListN.{length, drop, length-set}
-use Rattle.text.specs.Written.{decimal}
+use lib.ListN.{drop, length-set}
 use Rattle.text.specs.Written.{digits as Written·digits}
 use Rattle.text.proofs.Decimal.{last_digit, digit-before, no_digit_before}
 use Rattle.text.proofs.put.spell.Goals as goal

@@ -1,13 +1,10 @@
 -- `text::put::spell` meets its contract. The loop's invariant: the digits still to come, before those that stand there, are the number's.
 use mathlib.Core.List.{◌++◌}
-use mathlib.Core.Path.{◌≡◌, sym, ap, ◌∙◌}
-use Prim.Native.Nat.{ℕ, ◌≤◌}
-use native.Mathlib.Omega.{arith}
-use borrow.Author.Tests.{ltb-true, ltb-false}
-use lib.ListN.{length, drop, length-set}
+use mathlib.Core.Path.{◌≡◌}
+use Prim.Native.Nat.{◌≤◌}
+use lib.ListN.{length, drop}
 use Rattle.text.specs.Written.{decimal}
 use Rattle.text.specs.Written.{digits as Written·digits}
-use Rattle.text.proofs.Decimal.{last_digit, digit-before, no_digit_before}
 use Rattle.text.proofs.put.spell.Given as goal
 
 abbrev pub invariant-loop-first : goal.invariant-loop-first

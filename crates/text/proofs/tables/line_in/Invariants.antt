@@ -1,11 +1,8 @@
 -- `text::tables::line_in` meets its contract. The loop's invariant: the line is as many lines behind the place as are left.
-use mathlib.Core.Path.{◌≡◌, sym, ap, ◌∙◌}
-use Prim.Native.Nat.{ℕ, ◌-◌, ◌≤◌}
-use native.Mathlib.Nat.{sub-zero}
-use native.Mathlib.Omega.{arith}
+use mathlib.Core.Path.{◌≡◌}
+use Prim.Native.Nat.{◌-◌, ◌≤◌}
 use lib.ListN.{length, drop}
 use Rattle.text.specs.Tables.{line_in}
-use Rattle.text.proofs.Places.{line_more, line_there}
 use Rattle.text.proofs.tables.line_in.Given as goal
 
 abbrev pub invariant-loop-i : goal.invariant-loop-i

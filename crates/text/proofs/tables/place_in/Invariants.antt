@@ -1,12 +1,7 @@
 -- `text::tables::place_in` meets its contract. The loop's invariant: none of the lines before is the word.
-use mathlib.Core.Path.{◌≡◌, sym, ap, ◌∙◌}
-use Prim.Native.Nat.{ℕ, ◌-◌, ◌≤◌}
-use native.Mathlib.Nat.{sub-zero}
-use native.Mathlib.Omega.{arith}
-use borrow.Author.Rules.{rules}
+use mathlib.Core.Path.{◌≡◌}
+use Prim.Native.Nat.{◌-◌, ◌≤◌}
 use Rattle.text.specs.Tables.{place_from, place_in}
-use Rattle.text.specs.Words.{same}
-use Rattle.text.proofs.Places.{place_more, place_there, place_none}
 use Rattle.text.proofs.tables.place_in.Given as goal
 
 abbrev pub invariant-loop-k : goal.invariant-loop-k

@@ -1,7 +1,6 @@
 -- `text::tables::put_line` meets its contract.
 use mathlib.Core.Path.{ap, ◌∙◌}
 use Rattle.text.specs.Written.{written}
-use borrow.Author.Rules.{rules}
 use Rattle.text.proofs.tables.put_line.Goals as goal
 
 pub returns : goal.returns

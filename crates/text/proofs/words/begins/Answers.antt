@@ -1,7 +1,6 @@
 -- `text::words::begins` meets its contract.
 use mathlib.Core.Path.{ap, ◌∙◌}
 use Rattle.text.specs.Words.{same}
-use borrow.Author.Rules.{rules}
 use Rattle.text.proofs.words.begins.Goals as goal
 
 pub returns : goal.returns

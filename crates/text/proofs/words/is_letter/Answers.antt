@@ -1,5 +1,4 @@
 -- `text::words::is_letter` meets its contract.
-use borrow.Author.Rules.{rules}
 use Rattle.text.proofs.words.is_letter.Goals as goal
 
 pub returns : goal.returns

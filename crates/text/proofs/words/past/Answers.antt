@@ -1,9 +1,8 @@
 -- `text::words::past` meets its contract.
 use mathlib.Core.Path.{◌≡◌, refl, sym, ◌∙◌}
-use Prim.Native.Nat.{◌+◌, ◌-◌, ◌≤◌}
+use Prim.Native.Nat.{◌+◌}
 use native.Mathlib.Omega.{arith}
-use borrow.Author.Rules.{rules}
-use lib.ListN.{length, drop}
+use lib.ListN.{drop}
 use Rattle.text.specs.Words.{lead}
 use Rattle.text.proofs.Reading.{lead_more, lead_stops, lead-ends}
 use Rattle.text.proofs.words.past.Goals as goal

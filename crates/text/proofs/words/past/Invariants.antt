@@ -1,11 +1,8 @@
 -- `text::words::past` meets its contract.
-use mathlib.Core.Path.{◌≡◌, refl, sym, ◌∙◌}
+use mathlib.Core.Path.{◌≡◌}
 use Prim.Native.Nat.{◌+◌, ◌-◌, ◌≤◌}
-use native.Mathlib.Omega.{arith}
-use borrow.Author.Rules.{rules}
 use lib.ListN.{length, drop}
 use Rattle.text.specs.Words.{lead}
-use Rattle.text.proofs.Reading.{lead_more, lead_stops, lead-ends}
 use Rattle.text.proofs.words.past.Given as goal
 
 abbrev pub invariant-loop-at : goal.invariant-loop-at

@@ -1,9 +1,6 @@
 -- `text::words::same` meets its contract.
-use mathlib.Core.Path.{◌≡◌, refl, sym, ◌∙◌}
-use Prim.Native.Nat.{◌-◌, ◌≤◌}
+use mathlib.Core.Path.{refl, sym, ◌∙◌}
 use native.Mathlib.Omega.{arith}
-use lib.ListN.{length, drop}
-use Rattle.text.specs.Words.{same}
 use Rattle.text.proofs.Reading.{same_more, same_differs, same_ends, same_lengths}
 use Rattle.text.proofs.words.same.Goals as goal
 

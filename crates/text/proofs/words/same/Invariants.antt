@@ -1,10 +1,8 @@
 -- `text::words::same` meets its contract.
-use mathlib.Core.Path.{◌≡◌, refl, sym, ◌∙◌}
+use mathlib.Core.Path.{◌≡◌}
 use Prim.Native.Nat.{◌-◌, ◌≤◌}
-use native.Mathlib.Omega.{arith}
 use lib.ListN.{length, drop}
 use Rattle.text.specs.Words.{same}
-use Rattle.text.proofs.Reading.{same_more, same_differs, same_ends, same_lengths}
 use Rattle.text.proofs.words.same.Given as goal
 
 abbrev pub invariant-loop-k : goal.invariant-loop-k

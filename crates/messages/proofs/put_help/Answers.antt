@@ -1,0 +1,11 @@
+-- `messages::put_help` meets its contract.
+use mathlib.Core.Path.{ap, ◌∙◌}
+use Prim.Native.Nat.{ℕ}
+use Rattle.text.specs.Tables.{line_in}
+use Rattle.text.specs.Written.{written}
+use Rattle.messages.specs.Messages.{helps, help}
+use Rattle.messages.proofs.put_help.Goals as goal
+
+pub returns : goal.returns
+unfolding help
+returns c = c.put_line.ensures ∙ ap (λ (k : ℕ). written (c.args.to.now, c.args.at) (line_in k helps)) c.number.ensures
