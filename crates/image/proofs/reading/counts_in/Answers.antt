@@ -1,0 +1,11 @@
+-- `image::reading::counts_in` meets its contract.
+use mathlib.Core.Path.{◌≡◌, sym, ◌∙◌}
+use native.Mathlib.Omega.{arith}
+use lib.ListN.{length, take, drop, replicate, length-take, length-drop}
+use Rattle.image.proofs.Lists.{over-all}
+use Rattle.image.proofs.reading.counts_in.Goals as goal
+
+pub returns : goal.returns
+returns c =
+    let whole : length (take 8 (drop 16 c.args.r.now)) ≡ 8 = omega (arith, length-take 8 (drop 16 c.args.r.now), length-drop 16 c.args.r.now, c.requires) in
+    c.put_bytes.ensures ∙ over-all (replicate 8 0) (take 8 (drop 16 c.args.r.now)) (sym whole)
