@@ -17,23 +17,33 @@ has_rt() {
     command -v rt >/dev/null || complain "the toolchain's command rt is not on the path (README, \"The toolchain\")"
 }
 
-# The program is proved and built, unless nothing has changed since it was. What rt says of each crate goes to standard error as it comes; all that it says is kept, and
-# shown if it does not end with a word that all is proved.
+# Whether anything that the program is made of was written after it. What rt makes in a crate's out/ is none of that.
+changed() {
+    [ -n "$(find "$root/crates.txt" -newer "$built" -print -quit)" ] ||
+        [ -n "$(find "$root/crates" -mindepth 2 -name out -prune -o -newer "$built" -print -quit)" ]
+}
+
+# The program is proved and built, unless nothing has changed since it was. That each crate is proved goes to standard error as rt says it; all that rt says is kept, and
+# shown if it does not end well. What rt has built it also runs: here on nothing, and what the program prints then goes nowhere.
 build() {
-    [ -x "$built" ] && [ -z "$(find "$root/crates" "$root/crates.txt" -newer "$built" -print -quit)" ] && return
+    [ -x "$built" ] && ! changed && return
     has_rt
     printf '%s: proving and building the program; this takes some minutes, once\n' "$name" >&2
-    (cd "$root" && rt check "$name") 2>&1 | while IFS= read -r line; do
+    crate='' ended=0
+    {
+        cd "$root/crates/$name" && rt run </dev/null 2>&1 >/dev/null || ended=$?
+        printf 'rt run: %s\n' "$ended"
+    } | while IFS= read -r line; do
         printf '%s\n' "$line" >>"$told"
-        case $line in 'rt: '*' proved ('*) printf '%s: %s\n' "$name" "${line#rt: }" >&2 ;; esac
+        case $line in
+        'crate '*': '*) crate=${line#crate } ;;
+        'logic=proved '*) printf '%s: %s proved\n' "$name" "${crate%%:*}" >&2 ;;
+        esac
     done
-    case $(tail -n 1 "$told") in
-    'rt: ok, '*) ;;
-    *)
+    if [ "$(tail -n 1 "$told")" != 'rt run: 0' ] || [ ! -x "$built" ]; then
         cat "$told" >&2
         complain 'the program could not be proved and built'
-        ;;
-    esac
+    fi
     touch "$built"
 }
 
@@ -48,7 +58,7 @@ stopped() {
 program() { # NAME ARGUMENT..
     name=$1
     shift
-    built=$root/target/bin/$name
+    built=$root/crates/$name/out/$name
     case ${1-} in
     --help | -h)
         usage || exit 2
@@ -77,12 +87,13 @@ program() { # NAME ARGUMENT..
     done
     build
 
-    # Programs are for x86-64; on another processor the toolchain's emulator runs them.
+    # Programs are for x86-64. On another processor an emulator has to run them, which a toolchain for that processor may have; that of today runs on x86-64 alone and has none.
     set -- "$built"
     machine=$(uname -m)
     if [ "$machine" != x86_64 ]; then
         has_rt
-        kit=$(dirname "$(dirname "$(rt doc)")")/on/$machine/toolchain
+        kit=$(dirname "$(rt doc)")/on/$machine/toolchain
+        [ -x "$kit/bin/qemu-x86_64" ] || complain "the program is for x86-64, and the toolchain has no emulator for $machine"
         set -- "$kit/bin/qemu-x86_64" "$kit/lib/ld-linux-x86-64.so.2" --library-path "$kit/lib" "$built"
     fi
 

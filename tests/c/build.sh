@@ -7,8 +7,8 @@
 #   alone NAME SOURCE...           target/c/NAME by gcc for this processor, without the archive, with MODEL_ALONE and all sanitizers
 #
 # The archive is for x86-64. There gcc compiles and links, and checked means addresses and undefined behaviour. On another processor gcc
-# checks and preprocesses, and the toolchain's own compiler, linker, C library and emulator, those that rt links and runs programs with, do
-# the rest; they have no sanitizer runtime, so there checked means undefined behaviour alone, which traps.
+# checks and preprocesses, and the toolchain's own compiler, linker, C library and emulator do the rest; they have no sanitizer runtime, so
+# there checked means undefined behaviour alone, which traps. The toolchain of today runs on x86-64 alone and has no emulator.
 
 archive=target/staticlib/libam9519a.a
 out=target/c
@@ -18,9 +18,10 @@ sanitizers='-g -fsanitize=address,undefined -fno-sanitize-recover=all'
 export ASAN_OPTIONS=detect_leaks=0
 
 mkdir -p "$out"
-# The archive is made anew where there is none, or where a crate has changed since.
-if [ ! -f "$archive" ] || [ -n "$(find crates crates.txt -newer "$archive" -print -quit)" ]; then
-    rt staticlib am9519a >"$out/staticlib.log" 2>&1 || {
+# The archive is made anew where there is none, or where a crate has changed since; what rt makes in a crate's out/ is no change.
+if [ ! -f "$archive" ] || [ -n "$(find crates.txt -newer "$archive" -print -quit)" ] ||
+    [ -n "$(find crates -mindepth 2 -name out -prune -o -newer "$archive" -print -quit)" ]; then
+    scripts/archive >"$out/staticlib.log" 2>&1 || {
         cat "$out/staticlib.log"
         exit 1
     }
@@ -28,8 +29,12 @@ fi
 
 machine=$(uname -m)
 if [ "$machine" != x86_64 ]; then
-    kit=$(dirname "$(dirname "$(rt doc)")")/on/$machine/toolchain
+    kit=$(dirname "$(rt doc)")/on/$machine/toolchain
     lib=$kit/lib
+    [ -x "$kit/bin/qemu-x86_64" ] || {
+        echo "the archive is for x86-64, and the toolchain has no emulator for $machine"
+        exit 1
+    }
 fi
 
 build() { # plain|checked NAME SOURCE...

@@ -1,4 +1,4 @@
-// The C interface: what the report generator, written in C, calls. include/am9519a.h declares it.
+// The C interface: what the report generator, written in C, calls. include/am9519a.h declares it, and the crate am9519a_c exports it under the same names.
 // Every function takes any numbers and any bytes, and answers each: none has a `requires`. What C has to keep of its pointers: docs/C.md.
 #![tactic(auto)]
 
@@ -16,8 +16,7 @@ use run::on_image::run_in;
 use views::{pin_view, register_view};
 
 // The candidate search over register numbers: the channel, 255 for no candidate, or 254 if the pointer is above 7.
-#[unsafe(no_mangle)]
-pub extern "C" fn am9519a_candidate(irr: u8, imr: u8, isr: u8, mode: u8, pointer: u8) -> u8
+pub fn am9519a_candidate(irr: u8, imr: u8, isr: u8, mode: u8, pointer: u8) -> u8
     ensures { result ≡ search_number irr imr isr mode pointer }
 {
     if pointer > 7 {
@@ -27,8 +26,7 @@ pub extern "C" fn am9519a_candidate(irr: u8, imr: u8, isr: u8, mode: u8, pointer
 }
 
 // The chain at the start, into an image.
-#[unsafe(no_mangle)]
-pub extern "C" fn am9519a_start(count: u8, fill: u8, image: &mut [u8]) -> u8
+pub fn am9519a_start(count: u8, fill: u8, image: &mut [u8]) -> u8
     ensures value { result ≡ (start_call count fill image.old).number }
     ensures image_after { image.new ≡ (start_call count fill image.old).buffer }
 {
@@ -46,8 +44,7 @@ pub extern "C" fn am9519a_start(count: u8, fill: u8, image: &mut [u8]) -> u8
 }
 
 // A run over a list of events, four bytes each, up to a limit.
-#[unsafe(no_mangle)]
-pub extern "C" fn am9519a_run(
+pub fn am9519a_run(
     image: &mut [u8],
     events: &[u8],
     limit: usize,
@@ -68,8 +65,7 @@ pub extern "C" fn am9519a_run(
 }
 
 // The register view of a chip.
-#[unsafe(no_mangle)]
-pub extern "C" fn am9519a_registers(image: &[u8], chip: u8, view: &mut [u8]) -> u8
+pub fn am9519a_registers(image: &[u8], chip: u8, view: &mut [u8]) -> u8
     ensures value { result ≡ (registers_call image.now chip view.old).number }
     ensures view_after { view.new ≡ (registers_call image.now chip view.old).buffer }
 {
@@ -81,8 +77,7 @@ pub extern "C" fn am9519a_registers(image: &[u8], chip: u8, view: &mut [u8]) -> 
 }
 
 // The pin view of a chip.
-#[unsafe(no_mangle)]
-pub extern "C" fn am9519a_pins(image: &[u8], chip: u8, view: &mut [u8]) -> u8
+pub fn am9519a_pins(image: &[u8], chip: u8, view: &mut [u8]) -> u8
     ensures value { result ≡ (pins_call image.now chip view.old).number }
     ensures view_after { view.new ≡ (pins_call image.now chip view.old).buffer }
 {
@@ -94,8 +89,7 @@ pub extern "C" fn am9519a_pins(image: &[u8], chip: u8, view: &mut [u8]) -> u8
 }
 
 // What a number says to people, as far as there is room for it. Hands back how long all of it is.
-#[unsafe(no_mangle)]
-pub extern "C" fn am9519a_meaning(number: u8, text: &mut [u8]) -> usize
+pub fn am9519a_meaning(number: u8, text: &mut [u8]) -> usize
     ensures value { result ≡ (meaning_call number text.old).number }
     ensures text_after { text.new ≡ (meaning_call number text.old).buffer }
 {

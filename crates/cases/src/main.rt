@@ -4,30 +4,27 @@
 
 mod numbers;
 
+use std::io;
+
 // Writes the case's name, a space, and what became of it.
-fn say(number: u8, held: bool) {
-    io::write_all(1, b"K");
-    io::print_decimal(1, number as u64);
-    if held {
-        io::write_all(1, b" ok\n");
-    } else {
-        io::write_all(1, b" differs\n");
-    }
+fn say(rt: &impl Print, number: u8, held: bool) -> io::Result<()> {
+    let became = if held { "ok" } else { "differs" };
+    println!(rt; "K{number} {became}")
 }
 
-fn main() {
-    say(1, numbers::k1().held);
-    say(2, numbers::k2().held);
-    say(3, numbers::k3().held);
-    say(4, numbers::k4().held);
-    say(5, numbers::k5().held);
-    say(6, numbers::k6().held);
-    say(7, numbers::k7().held);
-    say(8, numbers::k8().held);
-    say(9, numbers::k9().held);
-    say(10, numbers::k10().held);
-    say(11, numbers::k11().held);
-    say(12, numbers::k12());
-    say(13, numbers::k13());
-    say(14, numbers::k14().held);
+fn main(rt: HostRuntime) -> io::Result<()> {
+    say(&rt, 1, numbers::k1().held)?;
+    say(&rt, 2, numbers::k2().held)?;
+    say(&rt, 3, numbers::k3().held)?;
+    say(&rt, 4, numbers::k4().held)?;
+    say(&rt, 5, numbers::k5().held)?;
+    say(&rt, 6, numbers::k6().held)?;
+    say(&rt, 7, numbers::k7().held)?;
+    say(&rt, 8, numbers::k8().held)?;
+    say(&rt, 9, numbers::k9().held)?;
+    say(&rt, 10, numbers::k10().held)?;
+    say(&rt, 11, numbers::k11().held)?;
+    say(&rt, 12, numbers::k12())?;
+    say(&rt, 13, numbers::k13())?;
+    say(&rt, 14, numbers::k14().held)
 }

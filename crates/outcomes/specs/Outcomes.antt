@@ -12,7 +12,8 @@
 -- call's promise allows (`satisfied`). And two results that the promise allows are the same (`no_two`). So that outcome is what the call hands back.
 use Rattle.std.specs.Prelude.{List, ◌≡◌, ℕ}
 use contract.Lifetimes.{Lfts}
-use denote.Ref.{MutBor, at_last}
+use Rattle.std.specs.Borrow.{Bor, MutBor}
+use denote.Ref.{at_last}
 use Rattle.search.specs.Candidate.{search_number}
 use Rattle.refusal.proofs.Answer.byte.Reads as answer_byte
 use Rattle.refusal.proofs.Answer.drove.Reads as answer_drove
@@ -99,7 +100,7 @@ pub record OneOutcome : Type 0 where
   pub verdict_is_accepted : (v : Verdict) → Determined verdict_is_accepted.Asked verdict_is_accepted.Post tt (v, tt) (is_accepted v)
   pub refusal_number_outcome : (why : Refusal) → Determined refusal_number_outcome.Asked refusal_number_outcome.Post tt (why, tt) (refusal_number why)
   -- a run takes any chain, any limit and two lent buffers of any length: what it reports, the chain with it, and every byte of the results as it leaves them
-  pub run : (lent : Lfts 2) (s : Chain) (bytes : MutBor (List ℕ)) (limit : ℕ) (results : MutBor (List ℕ))
+  pub run : (lent : Lfts 2) (s : Chain) (bytes : Bor (List ℕ)) (limit : ℕ) (results : MutBor (List ℕ))
       → let r : Report = run_of s bytes.now limit results.now in
       Writes run-run.Asked run-run.Post lent (λ results. (s, (bytes, (limit, (results, tt))))) results r.ran r.results
   -- the search for a caller in C takes any five numbers
@@ -109,10 +110,10 @@ pub record OneOutcome : Type 0 where
   pub start_call_outcome : (lent : Lfts 1) (count fill : ℕ) (image : MutBor (List ℕ))
       → let c : Called = start_call count fill image.now in
       Writes am9519a-start.Asked am9519a-start.Post lent (λ image. (count, (fill, (image, tt)))) image c.number c.buffer
-  pub registers_call_outcome : (lent : Lfts 2) (image : MutBor (List ℕ)) (chip : ℕ) (view : MutBor (List ℕ))
+  pub registers_call_outcome : (lent : Lfts 2) (image : Bor (List ℕ)) (chip : ℕ) (view : MutBor (List ℕ))
       → let c : Called = registers_call image.now chip view.now in
       Writes am9519a-registers.Asked am9519a-registers.Post lent (λ view. (image, (chip, (view, tt)))) view c.number c.buffer
-  pub pins_call_outcome : (lent : Lfts 2) (image : MutBor (List ℕ)) (chip : ℕ) (view : MutBor (List ℕ))
+  pub pins_call_outcome : (lent : Lfts 2) (image : Bor (List ℕ)) (chip : ℕ) (view : MutBor (List ℕ))
       → let c : Called = pins_call image.now chip view.now in
       Writes am9519a-pins.Asked am9519a-pins.Post lent (λ view. (image, (chip, (view, tt)))) view c.number c.buffer
   -- the sentence of any number takes a lent buffer likewise: how long it is, and every byte of the buffer
@@ -120,7 +121,7 @@ pub record OneOutcome : Type 0 where
       → let c : Called = meaning_call number text.now in
       Writes am9519a-meaning.Asked am9519a-meaning.Post lent (λ text. (number, (text, tt))) text c.number c.buffer
   -- of a run from C the number, every byte of the image and of the results, and the accepted count: an outcome is all four
-  pub run_call_outcome : (lent : Lfts 4) (image events : MutBor (List ℕ)) (limit : ℕ) (results : MutBor (List ℕ)) (accepted : MutBor ℕ)
+  pub run_call_outcome : (lent : Lfts 4) (image : MutBor (List ℕ)) (events : Bor (List ℕ)) (limit : ℕ) (results : MutBor (List ℕ)) (accepted : MutBor ℕ)
       → Only (am9519a-run.Asked lent (image, (events, (limit, (results, (accepted, tt))))))
       (λ (c : RunCalled). am9519a-run.Post lent (image, (events, (limit, (results, (accepted, tt))))) c.number
       (at_last image c.image, (events, (limit, (at_last results c.results, (at_last accepted c.accepted, tt))))))

@@ -2,7 +2,7 @@
 -- How to read a field: `Outcomes`.
 use Rattle.std.specs.Prelude.{Bool, List, ℕ}
 use contract.Lifetimes.{Lfts}
-use denote.Ref.{MutBor, at_last}
+use Rattle.std.specs.Borrow.{Bor, MutBor}
 use Rattle.event.specs.declared.Numbered.{Numbered}
 use Rattle.refusal.specs.declared.Answer.{Answer}
 use Rattle.chain.specs.declared.Chain.{Chain}
@@ -32,22 +32,22 @@ abbrev pub Puts : {L In : Type 0} → (L → In → Type 0) → (L → In → �
 Puts asked post lent args to at text = let w : List ℕ × ℕ = written (to.now, at) text in Writes asked post lent args to w.1 w.0
 
 -- a call that hands back a part of what it was lent: its outcome is the bytes of that part, wherever they lie. (As `Determined`)
-abbrev pub Hands : {L In : Type 0} → (L → In → Type 0) → (L → In → MutBor (List ℕ) → In → Type 0) → L → In → MutBor (List ℕ) → List ℕ → Type 0
-Hands asked post lent args part given = Only (asked lent args) (λ (bytes : List ℕ). post lent args (at_last part bytes) args) given
+abbrev pub Hands : {L In : Type 0} → (L → In → Type 0) → (L → In → Bor (List ℕ) → In → Type 0) → L → In → Bor (List ℕ) → List ℕ → Type 0
+Hands asked post lent args part given = Only (asked lent args) (λ (bytes : List ℕ). post lent args (record part { now = bytes }) args) given
 
 pub record OnePage : Type 0 where
   -- a report before its first line takes nothing
   pub new : Determined report-new.Asked report-new.Post tt tt at_first
   -- what a line says, of any lent bytes, started or not
-  pub step : (lent : Lfts 1) (started : Bool) (line : MutBor (List ℕ))
+  pub step : (lent : Lfts 1) (started : Bool) (line : Bor (List ℕ))
       → Determined step_of_lem.Asked step_of_lem.Post lent (started, (line, tt)) (step_of started line.now)
   -- the page of any line, step, answer and chain, written from any place on into a lent buffer of any length: the place behind it, and every byte of the buffer
   pub page : (lent : Lfts 1) (to : MutBor (List ℕ)) (at line : ℕ) (step : Numbered) (answer : Answer) (s : Chain)
       → Puts put-page.Asked put-page.Post lent (λ to. (to, (at, (line, (step, (answer, (s, tt))))))) to at (page_of line step answer s)
   -- a line, and the last one, of any report and any lent bytes, onto a lent page of any length: the report after it, what it printed, and how it goes on
-  pub take : (lent : Lfts 2) (r : Report) (line page : MutBor (List ℕ))
+  pub take : (lent : Lfts 2) (r : Report) (line : Bor (List ℕ)) (page : MutBor (List ℕ))
       → let said : Reply = reply line.now r in
       Writes report-take.Asked report-take.Post lent (λ page. (r, (line, (page, tt)))) page (taken_of said page.now) (page_of_reply said page.now).0
-  pub take_last : (lent : Lfts 2) (r : Report) (line page : MutBor (List ℕ))
+  pub take_last : (lent : Lfts 2) (r : Report) (line : Bor (List ℕ)) (page : MutBor (List ℕ))
       → let said : Reply = last_reply line.now r in
       Writes report-take-last.Asked report-take-last.Post lent (λ page. (r, (line, (page, tt)))) page (taken_of said page.now) (page_of_reply said page.now).0

@@ -1,0 +1,35 @@
+-- `in_place::events::command` meets its contract.
+use mathlib.Core.Path.{ap, sym, ◌∙◌}
+use Rattle.event.specs.declared.Event.TheVariants.{Command}
+use Rattle.chain.specs.Events.{refused}
+use Rattle.chain.specs.declared.Outcome.{Outcome}
+use Rattle.image.specs.Reading.{chain_in}
+use Rattle.in_place.proofs.Shown.{does, lands, declines}
+use Rattle.in_place.proofs.events.command.Goals as goal
+
+pub accept-requires : goal.accept-requires
+unfolding chain_in
+accept-requires c = record {
+  image_value = c.requires.image_value;
+  at_bound = lands (Command c.args.i c.args.code) (chain_in c.args.image.now) _ _ c.seen_round-seen.ensures c.requires.image_value_2 (sym c.command_verdict-judged.ensures ∙ c.in-Accepted.is) c.command.ensures;
+}
+
+pub returns-in-Accepted : goal.returns-in-Accepted
+unfolding chain_in
+returns-in-Accepted c =
+    let is = does (Command c.args.i c.args.code) (chain_in c.args.image.now) _ _ c.seen_round-seen.ensures c.requires.image_value_2 (sym c.command_verdict-judged.ensures ∙ c.in-Accepted.is) c.command.ensures in
+    record {
+      value = c.accept.ensures.value ∙ ap (λ (o : Outcome). o.answer) is;
+      image_after = c.accept.ensures.image_after;
+      image_after_2 = c.accept.ensures.image_after_2 ∙ ap (λ (o : Outcome). o.chain) is;
+    }
+
+pub returns-in-Refused : goal.returns-in-Refused
+unfolding chain_in refused
+returns-in-Refused c =
+    let is = declines (Command c.args.i c.args.code) (chain_in c.args.image.now) _ _ c.seen_round-seen.ensures c.requires.image_value_2 (sym c.command_verdict-judged.ensures ∙ c.in-Refused.is) in
+    record {
+      value = ap (λ (o : Outcome). o.answer) is;
+      image_after = c.requires.image_value;
+      image_after_2 = ap (λ (o : Outcome). o.chain) is;
+    }

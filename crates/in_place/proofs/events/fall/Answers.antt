@@ -1,0 +1,55 @@
+-- `in_place::events::fall` meets its contract.
+use mathlib.Core.Path.{refl, ap, ap₂, sym, ◌∙◌}
+use Rattle.event.specs.declared.Event.TheVariants.{Fall}
+use Rattle.chain.specs.Events.{refused}
+use Rattle.chain.specs.declared.Outcome.{Outcome}
+use Rattle.image.specs.Reading.{chain_in}
+use Rattle.in_place.proofs.Shown.{enough, does, lands, declines, no_ei}
+use mathlib.Core.Bool.{Bool}
+use Prim.Native.Nat.{ℕ}
+use native.Mathlib.Omega.{arith}
+use Rattle.decide.specs.Look.{look_of}
+use Rattle.decide.specs.declared.Look.{Look}
+use Rattle.decide.specs.declared.Look.TheVariants.{Answering}
+use Rattle.chain.specs.Seen.{looked_at}
+use Rattle.image.proofs.OneToOne.{image_length}
+use Rattle.parts.specs.Round.{seen_round}
+use Rattle.decide.proofs.Passed.{passed_fall}
+use Rattle.in_place.proofs.events.fall.Goals as goal
+
+pub response_in-requires : goal.response_in-requires
+response_in-requires c = omega (arith, image_length c.args.image.now c.requires.image_value)
+
+pub fall-requires : goal.fall-requires
+unfolding chain_in
+fall-requires c = record {
+  self_value = (enough Fall (chain_in c.args.image.now) c.seen_round-seen.result (c.seen_round-seen.ensures ∙ ap₂ (λ (at : ℕ) (ei : Bool). seen_round at ei (chain_in c.args.image.now)) (c.looked_at-at.ensures ∙ ap (λ (look : Look). looked_at look (chain_in c.args.image.now)) (c.of.ensures ∙ ap (look_of Fall) c.response_in.ensures)) (sym (no_ei Answering (chain_in c.args.image.now).response (chain_in c.args.image.now) refl))) c.requires.image_value_2).sound_seen;
+  iack_value = passed_fall c.seen_round-seen.result (sym c.fall_verdict-judged.ensures ∙ c.in-Accepted.is);
+}
+
+pub accept-requires : goal.accept-requires
+unfolding chain_in
+accept-requires c = record {
+  image_value = c.requires.image_value;
+  at_bound = lands Fall (chain_in c.args.image.now) _ _ (c.seen_round-seen.ensures ∙ ap₂ (λ (at : ℕ) (ei : Bool). seen_round at ei (chain_in c.args.image.now)) (c.looked_at-at.ensures ∙ ap (λ (look : Look). looked_at look (chain_in c.args.image.now)) (c.of.ensures ∙ ap (look_of Fall) c.response_in.ensures)) (sym (no_ei Answering (chain_in c.args.image.now).response (chain_in c.args.image.now) refl))) c.requires.image_value_2 (sym c.fall_verdict-judged.ensures ∙ c.in-Accepted.is) c.fall.ensures;
+}
+
+pub returns-in-Accepted : goal.returns-in-Accepted
+unfolding chain_in
+returns-in-Accepted c =
+    let is = does Fall (chain_in c.args.image.now) _ _ (c.seen_round-seen.ensures ∙ ap₂ (λ (at : ℕ) (ei : Bool). seen_round at ei (chain_in c.args.image.now)) (c.looked_at-at.ensures ∙ ap (λ (look : Look). looked_at look (chain_in c.args.image.now)) (c.of.ensures ∙ ap (look_of Fall) c.response_in.ensures)) (sym (no_ei Answering (chain_in c.args.image.now).response (chain_in c.args.image.now) refl))) c.requires.image_value_2 (sym c.fall_verdict-judged.ensures ∙ c.in-Accepted.is) c.fall.ensures in
+    record {
+      value = c.accept.ensures.value ∙ ap (λ (o : Outcome). o.answer) is;
+      image_after = c.accept.ensures.image_after;
+      image_after_2 = c.accept.ensures.image_after_2 ∙ ap (λ (o : Outcome). o.chain) is;
+    }
+
+pub returns-in-Refused : goal.returns-in-Refused
+unfolding chain_in refused
+returns-in-Refused c =
+    let is = declines Fall (chain_in c.args.image.now) _ _ (c.seen_round-seen.ensures ∙ ap₂ (λ (at : ℕ) (ei : Bool). seen_round at ei (chain_in c.args.image.now)) (c.looked_at-at.ensures ∙ ap (λ (look : Look). looked_at look (chain_in c.args.image.now)) (c.of.ensures ∙ ap (look_of Fall) c.response_in.ensures)) (sym (no_ei Answering (chain_in c.args.image.now).response (chain_in c.args.image.now) refl))) c.requires.image_value_2 (sym c.fall_verdict-judged.ensures ∙ c.in-Refused.is) in
+    record {
+      value = ap (λ (o : Outcome). o.answer) is;
+      image_after = c.requires.image_value;
+      image_after_2 = ap (λ (o : Outcome). o.chain) is;
+    }

@@ -1,0 +1,12 @@
+-- `page::lines::put_registers_line` meets its contract.
+use Rattle.page.specs.Page.{registers_line}
+use Rattle.text.proofs.Written.{written_none}
+use Rattle.page.proofs.lines.put_registers_line.Goals as goal
+
+pub returns-then-is_accepted : goal.returns-then-is_accepted
+unfolding registers_line
+returns-then-is_accepted c = simp (c.put_registers.ensures, ← c.is_accepted.ensures, c.if-is_accepted.true)
+
+pub returns-else-is_accepted : goal.returns-else-is_accepted
+unfolding registers_line
+returns-else-is_accepted c = simp (← c.is_accepted.ensures, c.if-is_accepted.false, written_none)

@@ -1,0 +1,25 @@
+-- `run::on_image::run_in` meets its contract.
+use mathlib.Core.Path.{◌≡◌, refl, sym, ap, ◌∙◌}
+use native.Mathlib.Omega.{arith}
+use Rattle.image.specs.Reading.{chain_in}
+use Rattle.run.proofs.Before.{none_before, before_room, before-sound}
+use Rattle.run.specs.Run.{run_from, before_any, run_of}
+use Rattle.run.proofs.on_image.run_in.Goals as goal
+
+pub perform_in-requires : goal.perform_in-requires
+perform_in-requires c = record {
+  image_value = c.requires.image_value;
+  image_value_2 = before-sound (chain_in c.args.image.now) c.args.bytes.now c.args.results.now c.requires.results_value;
+  count_in_bounds = omega (arith, c.least.ensures);
+  count_in_bounds_2 = omega (arith, c.least.ensures, before_room (chain_in c.args.image.now) c.args.bytes.now c.args.results.now c.requires.results_value);
+}
+
+pub returns : goal.returns
+returns c =
+    let is : run_from c.least.result c.args.bytes.now 0 (chain_in c.args.image.now) c.args.results.now ≡ run_of (chain_in c.args.image.now) c.args.bytes.now c.args.limit c.args.results.now =
+    ap (λ count. run_from count c.args.bytes.now 0 (chain_in c.args.image.now) c.args.results.now) c.least.ensures
+    ∙ sym (none_before (chain_in c.args.image.now) c.args.bytes.now c.args.limit c.args.results.now (before_any (chain_in c.args.image.now) c.args.bytes.now c.args.results.now) refl c.requires.results_value) in
+    record {
+      image_after = c.perform_in.ensures.image_after;
+      results_after = c.perform_in.ensures.results_after ∙ is;
+    }
