@@ -36,17 +36,17 @@ record Begins (s : Chain) (i channel : ℕ) (e : Event) (es : List Event) : Type
 begins : (s : Chain) (i channel : ℕ) (e : Event) (es : List Event) → Waited s i channel (e ∷ es) → Begins s i channel e es
 unfolding is_wait
 begins s i channel e es w =
-    let three = both_left (waits (chip_at s i) channel && not (resets i e s) && not (answers_it i channel e s)) _ w.waits-through in
+    let three = both_left (waits (chip_at s i) channel && not (resets i e s) && not (answers_it i channel e s)) _ w.waits_through in
     let two = both_left (waits (chip_at s i) channel && not (resets i e s)) _ three in
     record {
       waiting = both_left (waits (chip_at s i) channel) _ two;
       no_reset = not-true (resets i e s) (both_right (waits (chip_at s i) channel) _ two);
       no_answer = not-true (answers_it i channel e s) (both_right (waits (chip_at s i) channel && not (resets i e s)) _ three);
       then = record {
-        sound_chain = events_keep.sound_kept e s w.sound-chain;
-        in_the_count = subst (λ (n : ℕ). i < n) (sym (events_keep.count_kept e s)) w.in-the-count;
-        a_channel = w.a-channel;
-        waits_through = both_right (waits (chip_at s i) channel && not (resets i e s) && not (answers_it i channel e s)) _ w.waits-through;
+        sound_chain = events_keep.sound_kept e s w.sound_chain;
+        in_the_count = subst (λ (n : ℕ). i < n) (sym (events_keep.count_kept e s)) w.in_the_count;
+        a_channel = w.a_channel;
+        waits_through = both_right (waits (chip_at s i) channel && not (resets i e s) && not (answers_it i channel e s)) _ w.waits_through;
       };
     }
 
@@ -66,10 +66,10 @@ come s i channel (e ∷ es) w =
     let b : Begins s i channel e es = begins s i channel e es w in
     let rest : Come (event_of e s).chain i channel es = come (event_of e s).chain i channel es b.then in
     let near : Nearer i channel e s =
-    wait_step e s i channel w.sound-chain w.in-the-count w.a-channel b.waiting b.no_reset b.no_answer in
+    wait_step e s i channel w.sound_chain w.in_the_count w.a_channel b.waiting b.no_reset b.no_answer in
     let one : digit (is_counted i e s) ≤ digit (answers_another i channel e s) =
     digit_le (is_counted i e s) (answers_another i channel e s)
-    (λ counts. counted-answered e s i channel w.sound-chain w.in-the-count w.a-channel b.waiting counts b.no_answer) in
+    (λ counts. counted-answered e s i channel w.sound_chain w.in_the_count w.a_channel b.waiting counts b.no_answer) in
     let few = rest.pulses_le in
     let far = rest.others_le in
     record { pulses_le = omega (arith, one, few); others_le = omega (arith, near, far) }

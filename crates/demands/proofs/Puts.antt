@@ -73,10 +73,10 @@ puts by P w (Command i code) =
     let v : Seen = by (Command i code) in
     ending_puts (ends_response v.at code v.response) v (P (Command i code)) (replacing v.at (commanded (figure4 code) code v.chip) nothing)
     (λ put. (refl, w.command i code))
-puts by P w (Data i byte) = λ put. (refl, w.data-write i byte)
+puts by P w (Data i byte) = λ put. (refl, w.data_write i byte)
 puts by P w (Status i) = λ put. not_both put
 puts by P w (Read i) = λ put. not_both put
 puts by P w (Line i channel level) = λ put. (refl, w.line i channel level)
 puts by P w (Enable level) = λ put. not_both put
-puts by P w Fall = fallen_puts (by Fall).response (by Fall) (P Fall) refl w.first-pulse
-puts by P w Rise = risen_puts (by Rise).response (by Rise) (P Rise) refl w.last-rise
+puts by P w Fall = fallen_puts (by Fall).response (by Fall) (P Fall) refl w.first_pulse_lem
+puts by P w Rise = risen_puts (by Rise).response (by Rise) (P Rise) refl w.last_rise

@@ -56,7 +56,7 @@ record AsLarge (c d : Chip) : Type 0 where
   memory : length d.memory ≡ length c.memory
 
 whole_as : (c d : Chip) → AsLarge c d → WholeChip c → WholeChip d
-whole_as c d large w = record { eight_codes = large.counts ∙ w.eight-codes; all_memory = large.memory ∙ w.all-memory }
+whole_as c d large w = record { eight_codes = large.counts ∙ w.eight_codes; all_memory = large.memory ∙ w.all_memory }
 
 obeyed : (row : Command) (c : Chip) → AsLarge c (obey row c)
 unfolding chip_fields obey reset
@@ -130,21 +130,21 @@ each_whole : (s : Chain) (i : ℕ) → Whole s → WholeChip (chip_at s i)
 each_whole s i w = by (ltb i 8) refl
   where
     by : (b : Bool) → ltb i 8 ≡ b → WholeChip (chip_at s i)
-    by true below = w.whole-chips i (ltb-true i 8 below)
+    by true below = w.whole_chips i (ltb-true i 8 below)
     by false past =
         let most : 8 ≤ i = ltb-false i 8 past in
-        subst WholeChip (sym (get_d_past s.chips i zero_chip (subst (λ (n : ℕ). n ≤ i) (sym w.eight-chips) most))) zero_whole
+        subst WholeChip (sym (get_d_past s.chips i zero_chip (subst (λ (n : ℕ). n ≤ i) (sym w.eight_chips) most))) zero_whole
 
 judged_whole : (v : Verdict) (e : Event) (s : Chain) → Whole s → Whole (judged v e s).chain
 unfolding decision seen_at counted chain_fields
 judged_whole v e s w =
     record {
-      eight_chips = records v e s ∙ w.eight-chips;
+      eight_chips = records v e s ∙ w.eight_chips;
       whole_chips = λ k h.
-          left (λ t. WholeChip (chip_at t k)) v e s (w.whole-chips k h)
+          left (λ t. WholeChip (chip_at t k)) v e s (w.whole_chips k h)
           (λ ok. applied_chips WholeChip (decision e s) s k
           (λ put. whole_as (seen_by e s).chip _ (decided_large e (seen_by e s) put) (each_whole s _ w))
-          (w.whole-chips k h));
+          (w.whole_chips k h));
     }
 
 step_whole : (listed : Listed) (s : Chain) → Whole s → Whole (listed_outcome listed s).chain
