@@ -31,7 +31,8 @@ taken_of said page = record { report = said.report; length = (page_of_reply said
 abbrev pub Puts : {L In : Type 0} → (L → In → Type 0) → (L → In → ℕ → In → Type 0) → L → (MutBor (List ℕ) → In) → MutBor (List ℕ) → ℕ → List ℕ → Type 0
 Puts asked post lent args to at text = let w : List ℕ × ℕ = written (to.now, at) text in Writes asked post lent args to w.1 w.0
 
--- a call that hands back a part of what it was lent: its outcome is the bytes of that part, wherever they lie. (As `Determined`)
+-- a call that hands back a part of what it was lent: its outcome is the bytes of that part, wherever they lie, so the promise is asked of the part with these
+-- bytes in it. (As `Determined`)
 abbrev pub Hands : {L In : Type 0} → (L → In → Type 0) → (L → In → Bor (List ℕ) → In → Type 0) → L → In → Bor (List ℕ) → List ℕ → Type 0
 Hands asked post lent args part given = Only (asked lent args) (λ (bytes : List ℕ). post lent args (record part { now = bytes }) args) given
 
