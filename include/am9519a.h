@@ -10,19 +10,7 @@
  * may call it at any time, each with buffers of its own.
  *
  * The archive is x86-64 code, for Linux. On another processor your program has to be x86-64 code too, and runs under an emulator. The
- * toolchain of today is for x86-64 alone and has none. One for another processor has a compiler, a linker, a C library and an emulator
- * for that, those that rt uses itself, but no header files of C: gcc preprocesses first, with those of the processor you are on.
- * stdint.h, stdio.h, stdlib.h and string.h, as the tests use them, will do; others may differ. In the repository's root, on aarch64 for
- * instance:
- *
- *     kit=$(dirname "$(rt doc)")/on/$(uname -m)/toolchain
- *     lib=$kit/lib
- *     gcc -Iinclude -E -P -o target/report.i examples/report.c
- *     "$kit/bin/clang" --target=x86_64-linux-gnu -x cpp-output -w -O2 -fPIC -c -o target/report.o target/report.i
- *     "$kit/bin/ld.lld" -pie --dynamic-linker /lib64/ld-linux-x86-64.so.2 -o target/report \
- *         "$lib/Scrt1.o" "$lib/crti.o" "$lib/crtbeginS.o" target/report.o target/staticlib/libam9519a.a \
- *         "$lib/libc.so.6" "$lib/libc_nonshared.a" "$lib/libgcc.a" "$lib/crtendS.o" "$lib/crtn.o"
- *     "$kit/bin/qemu-x86_64" "$lib/ld-linux-x86-64.so.2" --library-path "$lib" target/report
+ * toolchain is for x86-64 alone and has none.
  */
 #ifndef AM9519A_H
 #define AM9519A_H
