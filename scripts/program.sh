@@ -3,7 +3,7 @@
 #   0  the input was read to its end
 #   1  something in it was refused or malformed
 #   2  the script was called wrongly, or reading, writing or building failed
-# A program has no exit status of its own, so what it says on standard error is made into one: nothing behind its name is 0, `NAME: at ..` at last is 1, anything else is 2, and so
+# The exit status of a program says nothing of what it read, so what it says on standard error is made into one: nothing behind its name is 0, `NAME: at ..` at last is 1, anything else is 2, and so
 # is a program that was killed.
 # shellcheck shell=sh
 

@@ -1,5 +1,5 @@
 /*
- * A chain of 1 to 8 Am9519A chips in plain C, written from document 01 and, for the command codes, Figure 4 of the sheet. The state changes
+ * A chain of 1 to 8 Am9519A chips in plain C, written from the rules paper and, for the command codes, Figure 4 of the sheet. The state changes
  * where it stands, as a C programmer would have it. It shares nothing with the proved library but the constants of am9519a.h.
  *
  * A struct chain is always sound: it comes from model_start or model_read, which make no other, and no event makes one unsound.

@@ -1,5 +1,5 @@
 /*
- * The proved candidate search against a plain C computation, written from document 01 and not from the definitions.
+ * The proved candidate search against a plain C computation, written from the rules paper and not from the definitions.
  *
  * First every pointer 0 to 255 with every IRR, and 1,024 choices of IMR, ISR and mode for each pair, so spread that all 16,777,216 choices
  * are used, four times each. Then the pointers 0 to 7 of an armed chip in both orders, with every IRR, IMR and ISR.

@@ -1,5 +1,5 @@
 -- The numbers below n that pass a test: how many they are, whether all do, and the first of them.
--- Every search, sum and check of document 01 over channels, levels or chips is one of these three.
+-- Every search, sum and check of the rules paper over channels, levels or chips is one of these three.
 use Rattle.std.specs.Prelude.{Bool, true, cond, ◌&&◌, ℕ, zero, suc, ◌+◌}
 
 -- a test as a level or a digit: 1 where it holds, 0 where not

@@ -1,4 +1,4 @@
--- A byte as eight channels (document 01, "Bits"): channel k is bit k, and bit 0 is the lowest.
+-- A byte as eight channels (the rules paper, "Bits"): channel k is bit k, and bit 0 is the lowest.
 use Rattle.std.specs.Prelude.{Bool, cond, not, ◌&&◌, ℕ, ◌-◌, ◌/◌, ◌%◌, ◌^◌, eqb, ltb}
 use Rattle.std.specs.Int.Bits.{bit_and, bit_or}
 use Rattle.bits.specs.Below.{how_many}

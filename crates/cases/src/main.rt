@@ -1,4 +1,4 @@
-// The bench program: runs K1 to K14 of document 01 through the public calls and prints a line for each, `ok` or `differs`.
+// The bench program: runs K1 to K14 of the rules paper through the public calls and prints a line for each, `ok` or `differs`.
 // It reads nothing. Each case compares what the calls hand back with what the paper says (numbers.rt has the cases, crate bench_case the comparing).
 #![tactic(auto)]
 

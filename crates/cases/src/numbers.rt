@@ -1,4 +1,4 @@
-// K1 to K14 (document 01, "On the bench"). Codes are hex; one chip and fill 0 unless said.
+// K1 to K14 (the rules paper, "On the bench"). Codes are hex; one chip and fill 0 unless said.
 use bench_case::Bench;
 use chain::Chain;
 

@@ -1,4 +1,4 @@
--- The eight events (document 01, "The eight events" and "Numbers handed back"): what each hands back.
+-- The eight events (the rules paper, "The eight events" and "Numbers handed back"): what each hands back.
 use Rattle.refusal.specs.declared.Answer.{Answer}
 use Rattle.refusal.specs.declared.Refusal.{Refusal}
 use Rattle.refusal.specs.declared.Verdict.{Verdict}

@@ -1,4 +1,4 @@
--- The pins of a chain (document 01, "Bits"). A level is true where it is high.
+-- The pins of a chain (the rules paper, "Bits"). A level is true where it is high.
 use Rattle.std.specs.Prelude.{Bool, not, ◌||◌, ℕ, zero, suc}
 use Rattle.chip.specs.Status.{gint_active, gint_pin}
 use Rattle.response.specs.Held.{is_idle}

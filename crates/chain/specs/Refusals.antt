@@ -1,4 +1,4 @@
--- When an event is refused (document 01, "Numbers handed back"): 1 before all others, then the event's own tests.
+-- When an event is refused (the rules paper, "Numbers handed back"): 1 before all others, then the event's own tests.
 use Rattle.std.specs.Prelude.{Bool, not, ◌∷◌}
 use Rattle.refusal.specs.Numbers.{first_of_list}
 use Rattle.refusal.specs.declared.Refusal.{Refusal}

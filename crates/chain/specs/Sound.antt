@@ -1,4 +1,4 @@
--- When a chain's record is sound (document 01, "A chip").
+-- When a chain's record is sound (the rules paper, "A chip").
 use Rattle.std.specs.Prelude.{Bool, ◌&&◌, ℕ, leb}
 use Rattle.bits.specs.Below.{every}
 use Rattle.chip.specs.Sound.{chip_sound}

@@ -1,4 +1,4 @@
--- Start (document 01, "A chip"): a chip count and a fill byte.
+-- Start (the rules paper, "A chip"): a chip count and a fill byte.
 use Rattle.std.specs.Prelude.{true, cond, ℕ, replicate}
 use Rattle.chip.specs.Reset.{power_up}
 use Rattle.refusal.specs.declared.Refusal.TheVariants.{NotSound}

@@ -1,4 +1,4 @@
--- The walk along a chain (document 01, event 7): who answers a first pulse.
+-- The walk along a chain (the rules paper, event 7): who answers a first pulse.
 use Rattle.std.specs.Prelude.{◌&&◌, ℕ}
 use Rattle.bits.specs.Below.{first}
 use Rattle.chip.specs.Status.{gint_active}

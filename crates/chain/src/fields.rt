@@ -50,7 +50,7 @@ impl Chain {
         self
     }
 
-    // The chain with its own fields set: Enable In, IACK and the response. (A field that is an enum cannot be stored to, so the record is written anew.)
+    // The chain with its own fields set: Enable In, IACK and the response. (The record is written anew.)
     pub(crate) fn with_own(self, enable: bool, iack: bool, response: Response) -> Chain
         ensures { result ≡ with_own enable iack response self }
     {

@@ -1,4 +1,4 @@
--- What an acknowledge does inside the chip that answers (document 01, events 7 and 8).
+-- What an acknowledge does inside the chip that answers (the rules paper, events 7 and 8).
 use Rattle.std.specs.Prelude.{cond, ℕ, get_or}
 use Rattle.bits.specs.Byte.{bit, with_bit, without_bit}
 use Rattle.chip.specs.Data.{byte_count, memory_place}

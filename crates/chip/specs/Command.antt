@@ -1,4 +1,4 @@
--- What a chip does on a command (document 01, event 1): each row of Figure 4.
+-- What a chip does on a command (the rules paper, event 1): each row of Figure 4.
 use Rattle.std.specs.Prelude.{ℕ, ◌+◌, ◌*◌, ◌/◌, ◌%◌, set}
 use Rattle.bits.specs.Byte.{with_bit, without_bit}
 use Rattle.search.specs.Clear.{clear_highest}

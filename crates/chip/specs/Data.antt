@@ -1,4 +1,4 @@
--- Response levels, data writes and data reads of a chip (document 01, events 2 and 4).
+-- Response levels, data writes and data reads of a chip (the rules paper, events 2 and 4).
 use Rattle.std.specs.Prelude.{Bool, false, true, cond, List, ℕ, ◌+◌, ◌*◌, leb, get_or, set}
 use Rattle.bits.specs.Byte.{bit}
 use Rattle.chip.specs.Fields.{with_imr, with_acr, with_memory, with_destination}

@@ -1,4 +1,4 @@
--- A line level at a chip (document 01, event 5).
+-- A line level at a chip (the rules paper, event 5).
 use Rattle.std.specs.Prelude.{Bool, not, cond, ◌&&◌, ℕ}
 use Rattle.bits.specs.Byte.{bit, with_bit, without_bit}
 use Rattle.chip.specs.Fields.{with_irr, with_lines}

@@ -1,4 +1,4 @@
--- Reset and power-up (document 01, "A chip" and event 1).
+-- Reset and power-up (the rules paper, "A chip" and event 1).
 use Rattle.std.specs.Prelude.{ℕ, ◌%◌, replicate}
 use Rattle.chip.specs.Fields.{with_irr, with_isr, with_imr, with_acr, with_mode, with_command, with_memory, with_counts, with_lines, with_pointer, with_destination, zero_chip}
 use Rattle.chip.specs.declared.Chip.{Chip}

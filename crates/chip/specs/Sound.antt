@@ -1,4 +1,4 @@
--- When a chip's record is sound (document 01, "A chip").
+-- When a chip's record is sound (the rules paper, "A chip").
 use Rattle.std.specs.Prelude.{Bool, true, ◌&&◌, List, ℕ, leb, get_or}
 use Rattle.bits.specs.Below.{every}
 use Rattle.chip.specs.declared.Chip.{Chip}

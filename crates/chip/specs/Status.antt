@@ -1,4 +1,4 @@
--- What a chip's registers say (document 01, "Bits" and "Views and runs"): candidate, status byte, GINT, waiting number.
+-- What a chip's registers say (the rules paper, "Bits" and "Views and runs"): candidate, status byte, GINT, waiting number.
 use Rattle.std.specs.Prelude.{Bool, not, cond, ◌&&◌, ℕ, ◌+◌, ◌*◌}
 use Rattle.bits.specs.Below.{digit}
 use Rattle.bits.specs.Byte.{bit, waiting}

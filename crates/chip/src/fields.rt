@@ -24,7 +24,7 @@ impl Chip {
         }
     }
 
-    // The chip with another destination. (A field that is an enum cannot be stored to, so the record is written anew, in this one place.)
+    // The chip with another destination. (The record is written anew, in this one place.)
     pub(crate) fn with_destination(self, destination: Destination) -> Chip
         ensures { result ≡ with_destination destination self }
     {

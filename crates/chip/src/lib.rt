@@ -21,7 +21,7 @@ pub enum Destination {
     Level(u8, u8),
 }
 
-// The registers of a chip (document 01, "A chip"). The response memory is flat: level * 4 + place.
+// The registers of a chip (the rules paper, "A chip"). The response memory is flat: level * 4 + place.
 #[derive(Clone, Copy)]
 pub struct Chip {
     pub irr: u8,

@@ -1,4 +1,4 @@
--- What an accepted event does (document 01, "The eight events"): what it answers, and what it changes.
+-- What an accepted event does (the rules paper, "The eight events"): what it answers, and what it changes.
 use Rattle.std.specs.Prelude.{Bool, cond, eqb}
 use Rattle.refusal.specs.declared.Answer.TheVariants.{Byte}
 use Rattle.event.specs.declared.Event.{Event}

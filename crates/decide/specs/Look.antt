@@ -1,4 +1,4 @@
--- Where each event looks, beside the chain's own fields (document 01, "The eight events"): at the chip that it names, that responds or that answers.
+-- Where each event looks, beside the chain's own fields (the rules paper, "The eight events"): at the chip that it names, that responds or that answers.
 use Rattle.event.specs.declared.Event.{Event}
 use Rattle.event.specs.declared.Event.TheVariants.{Command, Data, Status, Read, Line, Enable, Fall, Rise}
 use Rattle.response.specs.declared.Response.{Response}

@@ -1,4 +1,4 @@
--- The acknowledge pulse (document 01, events 7 and 8).
+-- The acknowledge pulse (the rules paper, events 7 and 8).
 use Rattle.std.specs.Prelude.{Bool, true, false, cond, eqb, ltb}
 use Rattle.refusal.specs.declared.Answer.TheVariants.{Byte}
 use Rattle.chip.specs.Acknowledge.{answered, response_byte, finished}

@@ -1,4 +1,4 @@
--- When an event is refused (document 01, "Numbers handed back"): each test of the table with its refusal, over what the test looks at, and which of them each
+-- When an event is refused (the rules paper, "Numbers handed back"): each test of the table with its refusal, over what the test looks at, and which of them each
 -- event takes. (1, chain not sound, comes before all others: `chain/specs/Refusals`.)
 use Rattle.std.specs.Prelude.{Bool, not, List, [], ◌∷◌, ℕ, leb, ltb}
 use Rattle.refusal.specs.Numbers.{first_of_list}

@@ -32,7 +32,7 @@ impl Change {
         }
     }
 
-    // Another answer. (A field that is an enum cannot be stored to, so the record is written anew.)
+    // Another answer. (The record is written anew.)
     pub(crate) fn answering(self, answer: Answer) -> Change
         ensures { result ≡ answering answer self }
     {

@@ -1,4 +1,4 @@
--- When a picture of the pins and a table of the registers agree (document 01, "Views and runs"), and that those of one state always do.
+-- When a picture of the pins and a table of the registers agree (the rules paper, "Views and runs"), and that those of one state always do.
 use Rattle.std.specs.Prelude.{Bool, true, not, cond, ◌&&◌, ◌≡◌, ℕ, ◌<◌, eqb}
 use Rattle.bits.specs.Below.{digit}
 use Rattle.bits.specs.Byte.{bit}

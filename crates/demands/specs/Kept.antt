@@ -1,4 +1,4 @@
--- What the events keep (document 01, "A chip" and "Numbers handed back"): a sound chain stays sound, an event replaces at most one chip and
+-- What the events keep (the rules paper, "A chip" and "Numbers handed back"): a sound chain stays sound, an event replaces at most one chip and
 -- leaves the others, also those past the count, and the event number counts the accepted ones. (What a refused one leaves: Unchanged.)
 use Rattle.std.specs.Prelude.{Bool, true, false, ◌&&◌, List, ◌≡◌, ℕ, ◌+◌, ◌%◌, ◌≤◌, ◌<◌, eqb, length}
 use Rattle.refusal.specs.Numbers.{is_accepted}

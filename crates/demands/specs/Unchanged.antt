@@ -1,4 +1,4 @@
--- What a refusal leaves as it was (document 01, "Numbers handed back"): the chain, and every byte of a lent buffer.
+-- What a refusal leaves as it was (the rules paper, "Numbers handed back"): the chain, and every byte of a lent buffer.
 use Rattle.std.specs.Prelude.{true, false, List, ◌≡◌, ℕ, ◌*◌, ◌≤◌, get_or, length}
 use Rattle.refusal.specs.Numbers.{verdict_number, is_accepted}
 use Rattle.refusal.specs.declared.Verdict.TheVariants.{Accepted}

@@ -1,4 +1,4 @@
--- An event as four numbers (document 01, "Views and runs"): kind 1 to 8, chip, channel, value; unused ones are ignored.
+-- An event as four numbers (the rules paper, "Views and runs"): kind 1 to 8, chip, channel, value; unused ones are ignored.
 use Rattle.std.specs.Prelude.{ℕ, Bool, cond, ◌==◌}
 use Rattle.event.specs.declared.Event.{Event}
 use Rattle.event.specs.declared.Event.TheVariants.{Command, Data, Status, Read, Line, Enable, Fall, Rise}

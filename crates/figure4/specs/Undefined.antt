@@ -1,4 +1,4 @@
--- The undefined codes as the paper lists them (document 01, "The eight events", 1): codes 01 to 0F hex, 1010xx11 binary, and D0 to DF hex. They are told
+-- The undefined codes as the paper lists them (the rules paper, "The eight events", 1): codes 01 to 0F hex, 1010xx11 binary, and D0 to DF hex. They are told
 -- here apart from Figure 4. That they are just the codes in none of its rows is proved (`figure4/proofs/Figure4`: `undefined_codes`, `undefined_kind`), and
 -- the table of numbers refuses them by this list (`demands/specs/Table`).
 use Rattle.std.specs.Prelude.{Bool, ◌&&◌, ◌||◌, ℕ, ◌/◌, ◌%◌, eqb, leb}

@@ -1,5 +1,5 @@
 -- An order of a chip's channels, and the first set channel in it. An order is known by the channel that ends it: it starts after that one
--- (document 01, "Bits": rotating order starts after the pointer and ends with it). The channel that ends it counts modulo 8.
+-- (the rules paper, "Bits": rotating order starts after the pointer and ends with it). The channel that ends it counts modulo 8.
 use Rattle.std.specs.Prelude.{Bool, cond, ℕ, ◌+◌, ◌%◌, ltb}
 use Rattle.bits.specs.Below.{first}
 use Rattle.bits.specs.Byte.{bit}

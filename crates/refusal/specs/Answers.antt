@@ -1,4 +1,4 @@
--- What each answer hands back, in the paper's numbers (document 01, "Numbers handed back").
+-- What each answer hands back, in the paper's numbers (the rules paper, "Numbers handed back").
 use Rattle.std.specs.Prelude.{ℕ}
 use Rattle.refusal.specs.Numbers.{refusal_number}
 use Rattle.refusal.specs.declared.Answer.{Answer}

@@ -1,5 +1,5 @@
 // The numbers handed back: why a call is refused, the number of each reason, what it says to people, and what an event answers.
-// A failure has a name here; document 01's table of numbers stands in specs/, beside the table of sentences, and every promise goes through it.
+// A failure has a name here; the rules paper's table of numbers stands in specs/, beside the table of sentences, and every promise goes through it.
 #![tactic(auto)]
 
 ghost use Rattle.std.specs.Prelude.{◌≡◌};

@@ -1,4 +1,4 @@
--- What is held of a response (document 01, "A chip" and events 1, 7 and 8).
+-- What is held of a response (the rules paper, "A chip" and events 1, 7 and 8).
 use Rattle.std.specs.Prelude.{Bool, true, false, ◌&&◌, ℕ, ◌+◌, eqb}
 use Rattle.search.specs.Candidate.{channel_of}
 use Rattle.chip.specs.Acknowledge.{response_level, response_length}

@@ -1,4 +1,4 @@
--- When the record of a response is sound (document 01, "A chip").
+-- When the record of a response is sound (the rules paper, "A chip").
 use Rattle.std.specs.Prelude.{Bool, true, cond, ◌&&◌, ℕ, leb, ltb}
 use Rattle.response.specs.declared.Reply.{Reply}
 use Rattle.response.specs.declared.Response.{Response}

@@ -1,4 +1,4 @@
--- The walk along the chain (document 01, "Bits" and event 7), chip by chip from chip 0. A level is true where it is high.
+-- The walk along the chain (the rules paper, "Bits" and event 7), chip by chip from chip 0. A level is true where it is high.
 use Rattle.std.specs.Prelude.{Bool, not, cond, ◌&&◌, ℕ, ◌+◌, ltb}
 use Rattle.chip.specs.Status.{is_armed, gint_active}
 use Rattle.chip.specs.declared.Chip.{Chip}

@@ -1,4 +1,4 @@
--- Lists of events as bytes (document 01, "Views and runs"): four an event, its numbers in their order.
+-- Lists of events as bytes (the rules paper, "Views and runs"): four an event, its numbers in their order.
 use Rattle.std.specs.Prelude.{List, ℕ, ◌+◌, ◌*◌, get_or}
 use Rattle.event.specs.Numbers.{listed}
 use Rattle.event.specs.declared.Listed.{Listed}

@@ -1,4 +1,4 @@
--- A run (document 01, "Views and runs"): it stops at the limit, the end or the first refusal, and keeps what it accepted.
+-- A run (the rules paper, "Views and runs"): it stops at the limit, the end or the first refusal, and keeps what it accepted.
 use Rattle.std.specs.Prelude.{Bool, not, cond, List, [], ◌∷◌, ℕ, zero, suc, ◌+◌, ◌*◌, ◌/◌, ◌%◌, min, eqb, ltb, length, set}
 use Rattle.refusal.specs.Numbers.{is_accepted, first_of_list}
 use Rattle.refusal.specs.declared.Refusal.{Refusal}

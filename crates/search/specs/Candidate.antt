@@ -1,4 +1,4 @@
--- The candidate of a chip (document 01, "Bits"), from its registers as plain numbers, and its number for a caller in C ("Views and runs").
+-- The candidate of a chip (the rules paper, "Bits"), from its registers as plain numbers, and its number for a caller in C ("Views and runs").
 use Rattle.std.specs.Prelude.{Bool, true, false, cond, ℕ, ltb}
 use Rattle.bits.specs.Byte.{bit}
 use Rattle.order.specs.Order.{channel_at}

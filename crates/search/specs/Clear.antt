@@ -1,4 +1,4 @@
--- "Clear highest priority ISR bit" (document 01, event 1): by the order in force; it does nothing on an empty ISR.
+-- "Clear highest priority ISR bit" (the rules paper, event 1): by the order in force; it does nothing on an empty ISR.
 use Rattle.std.specs.Prelude.{cond, ℕ, ltb}
 use Rattle.bits.specs.Byte.{without_bit}
 use Rattle.order.specs.Order.{channel_at}

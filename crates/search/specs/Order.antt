@@ -1,4 +1,4 @@
--- The order in force (document 01, "Bits": fixed order is 0 to 7; rotating order starts after the pointer and ends with it), and what stands first in an order.
+-- The order in force (the rules paper, "Bits": fixed order is 0 to 7; rotating order starts after the pointer and ends with it), and what stands first in an order.
 use Rattle.std.specs.Prelude.{cond, ℕ}
 use Rattle.bits.specs.Byte.{bit, is_waiting}
 use Rattle.order.specs.Order.{first_in}

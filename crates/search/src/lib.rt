@@ -1,5 +1,5 @@
 // The priority searches of one chip: the order in force, the candidate, and "clear highest". Each is one look for the first set channel.
-// No search asks anything of its caller: a pointer above 7 counts modulo 8 here, and is refused where document 01 refuses it.
+// No search asks anything of its caller: a pointer above 7 counts modulo 8 here, and is refused where the rules paper refuses it.
 #![tactic(auto)]
 
 ghost use Rattle.std.specs.Prelude.{◌≡◌};

@@ -1,4 +1,4 @@
--- The two views of one state (document 01, "Views and runs"): the table of the registers and the picture of the pins.
+-- The two views of one state (the rules paper, "Views and runs"): the table of the registers and the picture of the pins.
 use Rattle.std.specs.Prelude.{cond, [], ◌∷◌, ℕ}
 use Rattle.bits.specs.Below.{digit}
 use Rattle.chip.specs.Status.{status_byte, waiting_number}
