@@ -3,18 +3,19 @@
  *
  * Build the library, in the repository's root:
  *
- *     rt staticlib am9519a
+ *     scripts/archive
  *
  * It proves the library and writes target/staticlib/libam9519a.a. Compile your program with -Iinclude and link that archive after your own
  * files. It needs nothing but the C library's memcpy and its kind, keeps no state, allocates nothing and calls nothing of yours: any thread
  * may call it at any time, each with buffers of its own.
  *
  * The archive is x86-64 code, for Linux. On another processor your program has to be x86-64 code too, and runs under an emulator. The
- * toolchain has a compiler, a linker, a C library and an emulator for that, those that rt uses itself, but no header files of C: gcc
- * preprocesses first, with those of the processor you are on. stdint.h, stdio.h, stdlib.h and string.h, as the tests use them, will do;
- * others may differ. In the repository's root, on aarch64 for instance:
+ * toolchain of today is for x86-64 alone and has none. One for another processor has a compiler, a linker, a C library and an emulator
+ * for that, those that rt uses itself, but no header files of C: gcc preprocesses first, with those of the processor you are on.
+ * stdint.h, stdio.h, stdlib.h and string.h, as the tests use them, will do; others may differ. In the repository's root, on aarch64 for
+ * instance:
  *
- *     kit=$(dirname "$(dirname "$(rt doc)")")/on/$(uname -m)/toolchain
+ *     kit=$(dirname "$(rt doc)")/on/$(uname -m)/toolchain
  *     lib=$kit/lib
  *     gcc -Iinclude -E -P -o target/report.i examples/report.c
  *     "$kit/bin/clang" --target=x86_64-linux-gnu -x cpp-output -w -O2 -fPIC -c -o target/report.o target/report.i

@@ -14,7 +14,7 @@ use Rattle.chain.proofs.Rules.{rules}
 use Rattle.chain.specs.Fields.{zero_chain}
 use Rattle.chain.specs.Sound.{sound}
 use Rattle.chain.specs.Start.{start_of}
-use Rattle.run.proofs.Before.{before-sound, refused-before}
+use Rattle.run.proofs.Before.{before-sound, refused_before}
 use Rattle.run.specs.Run.{Report, before_any, run_of}
 use Rattle.image.specs.Layout.{image_of}
 use Rattle.image.specs.Reading.{chain_in, is_image}
@@ -56,7 +56,7 @@ pub run_refused : (image events : List ℕ) (limit : ℕ) (results : List ℕ) (
     run_call image events limit results accepted ≡ run_left (verdict_number v) image results accepted
 unfolding run_call
 run_refused image events limit results accepted v is off =
-    simp (← is, off, refused-before (chain_of image) events limit results v is off)
+    simp (← is, off, refused_before (chain_of image) events limit results v is off)
 
 pub run_done : (image events : List ℕ) (limit : ℕ) (results : List ℕ) (accepted : ℕ) (v : Verdict) →
     v ≡ before_any (chain_of image) events results → is_accepted v ≡ true →

@@ -30,7 +30,7 @@ impl Chip {
 
     // Its length: the byte count of the answered channel.
     pub fn response_length(self, channel: u8) -> u8
-        requires self_value { chip_sound self ≡ true }
+        requires sound_chip { chip_sound self ≡ true }
         requires channel_bound { channel < 8 }
         ensures { result ≡ response_length self channel }
     {

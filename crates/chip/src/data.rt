@@ -41,7 +41,7 @@ impl Destination {
 impl Chip {
     // The byte count of a level: its code plus one.
     pub(crate) fn byte_count(self, level: u8) -> u8
-        requires self_value { chip_sound self ≡ true }
+        requires sound_chip { chip_sound self ≡ true }
         requires level_bound { level < 8 }
         ensures { result ≡ byte_count self.counts level }
     {

@@ -139,8 +139,8 @@ impl Seen {
 
     // What an accepted event does.
     pub fn change(self, e: Event) -> Change
-        requires self_value { seen_sound self ≡ true }
-        requires self_value_2 { verdict_on e self ≡ Accepted }
+        requires sound_seen { seen_sound self ≡ true }
+        requires accepted_event { verdict_on e self ≡ Accepted }
         ensures { result ≡ decided e self }
     {
         match e {

@@ -59,8 +59,8 @@ impl Seen {
 
     // IACK falls: with a response under way its chip drives the next byte; otherwise it is a first pulse.
     pub fn fall(self) -> Change
-        requires self_value { seen_sound self ≡ true }
-        requires iack_value { self.iack ≡ true }
+        requires sound_seen { seen_sound self ≡ true }
+        requires iack_high { self.iack ≡ true }
         ensures { result ≡ decided Fall self }
     {
         let response = self.response;

@@ -22,7 +22,7 @@ use Rattle.demands.specs.Demand3.{Demand3}
 use Rattle.demands.specs.Wait.{waits, resets, is_wait, Waited, is_first_pulse, answers_it, answers_another, others, reaches, is_counted, pulses}
 use Rattle.demands.proofs.Kept.{events_keep}
 use Rattle.demands.proofs.Needed.{needed}
-use Rattle.demands.proofs.ResetEnds.{reset-ends}
+use Rattle.demands.proofs.ResetEnds.{reset_ends}
 use Rattle.demands.proofs.Wait.{pointer_at, first_pulse_parts, Nearer, wait_step, counted-answered}
 use Rattle.demands.proofs.Worked.{worked, behind_others, refused_falls}
 
@@ -126,5 +126,5 @@ demand_3 =
       behind_others = behind_others;
       refused_falls = refused_falls;
       needed = needed;
-      reset-ends = reset-ends;
+      reset_ends = reset_ends;
     }

@@ -19,9 +19,9 @@ needed =
       first_pulse_lem = record { waits_through = waited refl refl refl refl; would_count = refl; do_count = refl };
       three_others = refl;
       else_twelve = refl;
-      armed = record { there = waited refl refl refl refl; would_wait = refl; does_not = refl; eight_counted = refl; others-answered = refl };
-      interrupt_mode = record { there = waited refl refl refl refl; would_wait = refl; does_not = refl; eight_counted = refl; others-answered = refl };
-      rotating = record { there = waited refl refl refl refl; would_wait = refl; does_not = refl; eight_counted = refl; others-answered = refl };
-      unmasked = record { there = waited refl refl refl refl; would_wait = refl; does_not = refl; eight_counted = refl; others-answered = refl };
-      latched = record { there = waited refl refl refl refl; would_wait = refl; does_not = refl; eight_counted = refl; others-answered = refl };
+      armed = record { there = waited refl refl refl refl; would_wait = refl; does_not = refl; eight_counted = refl; others_answered = refl };
+      interrupt_mode = record { there = waited refl refl refl refl; would_wait = refl; does_not = refl; eight_counted = refl; others_answered = refl };
+      rotating = record { there = waited refl refl refl refl; would_wait = refl; does_not = refl; eight_counted = refl; others_answered = refl };
+      unmasked = record { there = waited refl refl refl refl; would_wait = refl; does_not = refl; eight_counted = refl; others_answered = refl };
+      latched = record { there = waited refl refl refl refl; would_wait = refl; does_not = refl; eight_counted = refl; others_answered = refl };
     }

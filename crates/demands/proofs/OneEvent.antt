@@ -21,7 +21,7 @@ use Rattle.chain.specs.Refusals.{verdict_of}
 use Rattle.chain.specs.Sound.{sound}
 use Rattle.chain.specs.declared.Chain.{Chain}
 use Rattle.chain.specs.declared.Outcome.{Outcome}
-use Rattle.run.proofs.Before.{none_before, refused-before}
+use Rattle.run.proofs.Before.{none_before, refused_before}
 use Rattle.run.proofs.Steps.{goes_on, stops, step_same}
 use Rattle.run.specs.List.{listed_at}
 use Rattle.run.specs.Run.{list_length, before_any, listed_outcome, noted, run_from, run_of}
@@ -75,5 +75,5 @@ one_event e s bytes limit results four listed some room = by (sound s) refl
         ∙ ap (λ (left : ℕ). run_from left bytes 0 s results) one
         ∙ performed (is_accepted (verdict_in o.answer)) refl
     by false is =
-        refused-before s bytes limit results (Refused NotSound) (sym (run_refused s bytes results is)) refl
+        refused_before s bytes limit results (Refused NotSound) (sym (run_refused s bytes results is)) refl
         ∙ ap (λ (o : Outcome). as_the_call o results) (sym (call_refused e s is))

@@ -11,7 +11,7 @@ use Rattle.refusal.specs.Numbers.{is_accepted}
 use Rattle.refusal.specs.declared.Verdict.TheVariants.{Accepted}
 use Rattle.refusal.specs.Answers.{verdict_in, Handed, handed}
 use Rattle.chain.specs.declared.Chain.{Chain}
-use Rattle.run.proofs.Before.{before_room, refused-before, none_before}
+use Rattle.run.proofs.Before.{before_room, refused_before, none_before}
 use Rattle.run.proofs.Count.{accepted_count, no_more}
 use Rattle.run.proofs.Steps.{goes_on, noted-length, run_through}
 use Rattle.run.specs.List.{listed_at}
@@ -122,5 +122,5 @@ performed s bytes limit results n = by (is_accepted (before_any s bytes results)
         ((from_leaves bytes most 0 s results).each n n (omega arith) (omega (arith, h, count)) (omega (arith, few, room))))
     by false off =
         subst (λ (r : Report). n < r.ran.accepted → Performed bytes n (run_of s bytes n results).ran.chain (run_of s bytes (n + 1) results).ran.chain r.results)
-        (sym (refused-before s bytes limit results (before_any s bytes results) refl off))
+        (sym (refused_before s bytes limit results (before_any s bytes results) refl off))
         (λ h. absurd (omega (arith, h)))

@@ -63,12 +63,12 @@ reset_there s i channel j code r =
     let ok : verdict_of (Command j code) s ≡ Accepted = accepted_is _ (both_right (is_reset_of i (Command j code)) _ r) in
     rw ok (rw at (rw zero (reset_done s i channel)))
 
-pub reset-ends : (e : Event) (s : Chain) (i channel : ℕ) → resets i e s ≡ true → waits (chip_at (event_of e s).chain i) channel ≡ false
-reset-ends (Command j code) s i channel r = reset_there s i channel j code r
-reset-ends (Data j byte) s i channel r = not_both r
-reset-ends (Status j) s i channel r = not_both r
-reset-ends (Read j) s i channel r = not_both r
-reset-ends (Line j k level) s i channel r = not_both r
-reset-ends (Enable level) s i channel r = not_both r
-reset-ends Fall s i channel r = not_both r
-reset-ends Rise s i channel r = not_both r
+pub reset_ends : (e : Event) (s : Chain) (i channel : ℕ) → resets i e s ≡ true → waits (chip_at (event_of e s).chain i) channel ≡ false
+reset_ends (Command j code) s i channel r = reset_there s i channel j code r
+reset_ends (Data j byte) s i channel r = not_both r
+reset_ends (Status j) s i channel r = not_both r
+reset_ends (Read j) s i channel r = not_both r
+reset_ends (Line j k level) s i channel r = not_both r
+reset_ends (Enable level) s i channel r = not_both r
+reset_ends Fall s i channel r = not_both r
+reset_ends Rise s i channel r = not_both r

@@ -61,7 +61,7 @@ pub whole : (P : Report → Type 0) (s : Chain) (bytes : List ℕ) (limit : ℕ)
     → P (stopped (before_any s bytes results) 0 s results)
     → P (run_of s bytes limit results)
 whole P s bytes limit results true h on off = subst P (sym (before_any_lem.none_before s bytes limit results (before_any s bytes results) refl h)) on
-whole P s bytes limit results false h on off = subst P (sym (before_any_lem.refused-before s bytes limit results (before_any s bytes results) refl h)) off
+whole P s bytes limit results false h on off = subst P (sym (before_any_lem.refused_before s bytes limit results (before_any s bytes results) refl h)) off
 
 pub counted : (bytes : List ℕ) (left : ℕ) (s : Chain) (results : List ℕ) → (run_from left bytes 0 s results).ran.accepted ≡ accepted_from left bytes 0 s
 counted bytes left s results = count.accepted_count bytes left 0 s results ∙ omega arith

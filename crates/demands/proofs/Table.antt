@@ -31,7 +31,7 @@ use Rattle.chain.specs.declared.Chain.{Chain}
 use Rattle.event.specs.declared.Event.{Event}
 use Rattle.event.specs.declared.Event.TheVariants.{Command, Data, Status, Read, Line, Enable, Fall, Rise}
 use Rattle.chain.specs.declared.Outcome.{Outcome}
-use Rattle.run.proofs.Before.{refused-before, none_before}
+use Rattle.run.proofs.Before.{refused_before, none_before}
 use Rattle.run.proofs.Steps.{goes_on, stops}
 use Rattle.event.specs.Numbers.{listed, numbered, in_numbers}
 use Rattle.run.specs.List.{listed_at}
@@ -182,7 +182,7 @@ run_number s bytes limit results = by (is_accepted (before_any s bytes results))
         ∙ ap (λ (most : ℕ). given (last_entries bytes most (run_from (min limit (list_length bytes)) bytes 0 s results))) none_more
         ∙ sym (left_over tests (last_entries bytes most (run_from most bytes 0 s results)) h))
     by false h =
-        subst Ends (sym (refused-before s bytes limit results (before_any s bytes results) refl h))
+        subst Ends (sym (refused_before s bytes limit results (before_any s bytes results) refl h))
         (sym (decided tests (last_entries bytes most (stopped (before_any s bytes results) 0 s results)) h))
 
 -- the C search

@@ -102,7 +102,7 @@ unchanged =
       no_start = no_start;
       no_table_lem = λ chip s other. no_table_lem s chip (is_refused (register_view chip s).verdict other);
       no_picture_lem = λ chip s other. no_picture_lem s chip (is_refused (pin_view chip s).verdict other);
-      refused-before = λ s bytes limit results h. before_any_lem.refused-before s bytes limit results (before_any s bytes results) refl h;
+      refused_before = λ s bytes limit results h. before_any_lem.refused_before s bytes limit results (before_any s bytes results) refl h;
       accepted_kept = kept;
       length_kept = λ s bytes limit results.
           whole (λ r. length r.results ≡ length results) s bytes limit results _ refl

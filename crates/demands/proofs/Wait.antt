@@ -15,7 +15,7 @@ use Rattle.bits.proofs.Below.{digit_lt, either, both_left, both_right, every_eac
 use Rattle.bits.specs.Below.{digit, every}
 use Rattle.bits.specs.Byte.{bit, is_waiting}
 use Rattle.order.specs.Order.{channel_at}
-use Rattle.search.proofs.Rotating.{place_of, candidate_at, candidate-exists, waiting-before, waiting_nearer}
+use Rattle.search.proofs.Rotating.{place_of, candidate_at, candidate_exists, waiting-before, waiting_nearer}
 use Rattle.search.specs.Candidate.{candidate, exists}
 use Rattle.search.specs.Order.{last_of, first_waiting}
 use Rattle.refusal.proofs.Numbers.{not_both, accepted_is}
@@ -271,7 +271,7 @@ counted-answered e s i channel here h hc w counts other =
     subst (λ (last : ℕ). first_waiting last c.irr c.imr < 8) (sym last) (lt_of_le_of_lt close (mod-lt _ (lit< tt))) in
     let found : exists (candidate_of c) ≡ true =
     ap (λ (isr : ℕ). exists (candidate c.irr c.imr isr c.mode c.pointer)) empty
-    ∙ candidate-exists c.irr c.imr c.mode c.pointer p.armed within in
+    ∙ candidate_exists c.irr c.imr c.mode c.pointer p.armed within in
     let is : selected s ≡ UnderWay (reply_of i c) =
     reached_selected s i h
     (ei_high s i (both_left (is_idle s.response) _ two) (both_right (is_idle s.response) _ two) (every_each i (λ j. is_armed (chip_at s j)) armed))

@@ -25,8 +25,8 @@ late_enable =
     ∷ []
 
 -- a request that arrives in a stalled pulse: GINT goes active, the pulse stalls on, and the next one answers
-abbrev pub request_in_aStall : List Step
-request_in_aStall =
+abbrev pub request_in_a_stall : List Step
+request_in_a_stall =
     accepted (Command 0 0xA1)
     ∷ accepted (Command 0 0x2B)
     ∷ accepted Fall
@@ -142,8 +142,8 @@ destination_ends =
     ∷ []
 
 -- bus accesses during a pulse, and a level that IACK has already
-abbrev pub during_aPulse : List Step
-during_aPulse =
+abbrev pub during_a_pulse : List Step
+during_a_pulse =
     refused Rise 6
     ∷ accepted Fall
     ∷ refused Fall 6
@@ -162,6 +162,6 @@ corners =
     ∷ case 5 (on_bench 1 0 rewritten_byte)
     ∷ case 6 (on_bench 2 0 another_chip_reset)
     ∷ case 7 (on_bench 1 0 destination_ends)
-    ∷ case 8 (on_bench 1 0 during_aPulse)
-    ∷ case 9 (on_bench 1 0 request_in_aStall)
+    ∷ case 8 (on_bench 1 0 during_a_pulse)
+    ∷ case 9 (on_bench 1 0 request_in_a_stall)
     ∷ []

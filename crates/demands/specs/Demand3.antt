@@ -30,4 +30,4 @@ pub record Demand3 : Type 0 where
   -- no condition of these bounds can be left out: for each a list of events that would break one of them
   pub needed : Needed
   -- but for the one that no event resets the chip, which others make sure of: after a reset the chip is disarmed, so the request waits no longer
-  pub reset-ends : (e : Event) (s : Chain) (i channel : ℕ) → resets i e s ≡ true → waits (chip_at (event_of e s).chain i) channel ≡ false
+  pub reset_ends : (e : Event) (s : Chain) (i channel : ℕ) → resets i e s ≡ true → waits (chip_at (event_of e s).chain i) channel ≡ false

@@ -1,5 +1,5 @@
 -- The calls from C over an image of a chain: by the one table of numbers, without a trace where they are refused, and otherwise the model's own calls
--- between reading the image and writing it. That each call hands back and leaves just this is `outcomes/specs/Outcomes`: `start_call_outcome`, `run_call`, `registers_call_outcome`, `pins_call_outcome`.
+-- between reading the image and writing it. That each call hands back and leaves just this is `outcomes/specs/Outcomes`: `start_call_outcome`, `run_call_outcome`, `registers_call_outcome`, `pins_call_outcome`.
 use Rattle.std.specs.Prelude.{Bool, true, false, not, ◌&&◌, ◌||◌, List, [], ◌∷◌, ◌++◌, ◌≡◌, ℕ, ◌/◌, min, eqb, leb, ltb, length, drop}
 use Rattle.bits.specs.Below.{digit}
 use Rattle.bits.specs.Byte.{bit}

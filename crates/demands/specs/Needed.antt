@@ -92,7 +92,7 @@ pub record WouldWait (but-for-one : Chip → Bool) (s : Chain) (es : List Event)
   pub would_wait : along (λ e s. but-for-one (chip_at s 0) && not (resets 0 e s) && not (answers_it 0 7 e s)) s es ≡ length es
   pub does_not : is_wait 0 7 s es ≡ false
   pub eight_counted : pulses 0 s es ≡ 8
-  pub others-answered : others 0 7 s es ≡ answered
+  pub others_answered : others 0 7 s es ≡ answered
 
 unfoldable pub disarmed : Chain
 disarmed = after all_pending (Command 0 0xA2 ∷ [])

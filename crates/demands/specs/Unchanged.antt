@@ -28,7 +28,7 @@ pub record Unchanged : Type 0 where
   pub no_picture_lem : (chip : ℕ) (s : Chain) → (verdict_number (pin_view chip s).verdict ≡ 0 → ⊥)
       → (pin_view chip s).picture ≡ record { event = 0; ei = 0; eo = 0; gint = 0; rip = 0; pause = 0; iack = 0 }
   -- a run that is refused before any event hands back the chain and the results as given, and accepts none
-  pub refused-before : (s : Chain) (bytes : List ℕ) (limit : ℕ) (results : List ℕ) → is_accepted (before_any s bytes results) ≡ false
+  pub refused_before : (s : Chain) (bytes : List ℕ) (limit : ℕ) (results : List ℕ) → is_accepted (before_any s bytes results) ≡ false
       → run_of s bytes limit results ≡ stopped (before_any s bytes results) 0 s results
   -- one that is refused at an event keeps the accepted ones and nothing more: limited to those that it accepts, it does the same and is not refused
   pub accepted_kept : (s : Chain) (bytes : List ℕ) (limit : ℕ) (results : List ℕ) → is_accepted (before_any s bytes results) ≡ true

@@ -20,11 +20,11 @@ use refusal::{Answer, Verdict};
 
 // What an accepted event does, and one more event counted.
 fn accept(image: &mut [u8], change: Change) -> Answer
-    requires image_value { is_image image.old ≡ true }
+    requires image_form { is_image image.old ≡ true }
     requires at_bound { change.at < 8 }
     ensures value { result ≡ (accepted change (chain_in image.old)).answer }
-    ensures image_after { is_image image.new ≡ true }
-    ensures image_after_2 { chain_in image.new ≡ (accepted change (chain_in image.old)).chain }
+    ensures form_after { is_image image.new ≡ true }
+    ensures chain_after { chain_in image.new ≡ (accepted change (chain_in image.old)).chain }
 {
     apply(image, change);
     count_event(image);
@@ -33,11 +33,11 @@ fn accept(image: &mut [u8], change: Change) -> Answer
 
 // A command write.
 pub(crate) fn command(image: &mut [u8], i: u8, code: u8) -> Answer
-    requires image_value { is_image image.old ≡ true }
-    requires image_value_2 { sound (chain_in image.old) ≡ true }
+    requires image_form { is_image image.old ≡ true }
+    requires chain_sound { sound (chain_in image.old) ≡ true }
     ensures value { result ≡ (event_of (Command i code) (chain_in image.old)).answer }
-    ensures image_after { is_image image.new ≡ true }
-    ensures image_after_2 { chain_in image.new ≡ (event_of (Command i code) (chain_in image.old)).chain }
+    ensures form_after { is_image image.new ≡ true }
+    ensures chain_after { chain_in image.new ≡ (event_of (Command i code) (chain_in image.old)).chain }
 {
     let seen = seen_round(image, i, false);
     let judged = command_verdict(seen.count, seen.at, seen.iack, code);
@@ -49,11 +49,11 @@ pub(crate) fn command(image: &mut [u8], i: u8, code: u8) -> Answer
 
 // A data write.
 pub(crate) fn data_write(image: &mut [u8], i: u8, byte: u8) -> Answer
-    requires image_value { is_image image.old ≡ true }
-    requires image_value_2 { sound (chain_in image.old) ≡ true }
+    requires image_form { is_image image.old ≡ true }
+    requires chain_sound { sound (chain_in image.old) ≡ true }
     ensures value { result ≡ (event_of (Data i byte) (chain_in image.old)).answer }
-    ensures image_after { is_image image.new ≡ true }
-    ensures image_after_2 { chain_in image.new ≡ (event_of (Data i byte) (chain_in image.old)).chain }
+    ensures form_after { is_image image.new ≡ true }
+    ensures chain_after { chain_in image.new ≡ (event_of (Data i byte) (chain_in image.old)).chain }
 {
     let seen = seen_round(image, i, false);
     let chip = seen.chip;
@@ -66,11 +66,11 @@ pub(crate) fn data_write(image: &mut [u8], i: u8, byte: u8) -> Answer
 
 // A status read.
 pub(crate) fn status(image: &mut [u8], i: u8) -> Answer
-    requires image_value { is_image image.old ≡ true }
-    requires image_value_2 { sound (chain_in image.old) ≡ true }
+    requires image_form { is_image image.old ≡ true }
+    requires chain_sound { sound (chain_in image.old) ≡ true }
     ensures value { result ≡ (event_of (Status i) (chain_in image.old)).answer }
-    ensures image_after { is_image image.new ≡ true }
-    ensures image_after_2 { chain_in image.new ≡ (event_of (Status i) (chain_in image.old)).chain }
+    ensures form_after { is_image image.new ≡ true }
+    ensures chain_after { chain_in image.new ≡ (event_of (Status i) (chain_in image.old)).chain }
 {
     let seen = seen_round(image, i, walked(image, i).ei);
     let judged = bus_verdict(seen.count, seen.at, seen.iack);
@@ -82,11 +82,11 @@ pub(crate) fn status(image: &mut [u8], i: u8) -> Answer
 
 // A data read.
 pub(crate) fn read(image: &mut [u8], i: u8) -> Answer
-    requires image_value { is_image image.old ≡ true }
-    requires image_value_2 { sound (chain_in image.old) ≡ true }
+    requires image_form { is_image image.old ≡ true }
+    requires chain_sound { sound (chain_in image.old) ≡ true }
     ensures value { result ≡ (event_of (Read i) (chain_in image.old)).answer }
-    ensures image_after { is_image image.new ≡ true }
-    ensures image_after_2 { chain_in image.new ≡ (event_of (Read i) (chain_in image.old)).chain }
+    ensures form_after { is_image image.new ≡ true }
+    ensures chain_after { chain_in image.new ≡ (event_of (Read i) (chain_in image.old)).chain }
 {
     let seen = seen_round(image, i, false);
     let judged = bus_verdict(seen.count, seen.at, seen.iack);
@@ -98,11 +98,11 @@ pub(crate) fn read(image: &mut [u8], i: u8) -> Answer
 
 // A line takes a level.
 pub(crate) fn line(image: &mut [u8], i: u8, channel: u8, level: u8) -> Answer
-    requires image_value { is_image image.old ≡ true }
-    requires image_value_2 { sound (chain_in image.old) ≡ true }
+    requires image_form { is_image image.old ≡ true }
+    requires chain_sound { sound (chain_in image.old) ≡ true }
     ensures value { result ≡ (event_of (Line i channel level) (chain_in image.old)).answer }
-    ensures image_after { is_image image.new ≡ true }
-    ensures image_after_2 { chain_in image.new ≡ (event_of (Line i channel level) (chain_in image.old)).chain }
+    ensures form_after { is_image image.new ≡ true }
+    ensures chain_after { chain_in image.new ≡ (event_of (Line i channel level) (chain_in image.old)).chain }
 {
     let seen = seen_round(image, i, false);
     let judged = line_verdict(seen.count, seen.at, channel, level);
@@ -114,11 +114,11 @@ pub(crate) fn line(image: &mut [u8], i: u8, channel: u8, level: u8) -> Answer
 
 // The chain's Enable In takes a level.
 pub(crate) fn enable(image: &mut [u8], level: u8) -> Answer
-    requires image_value { is_image image.old ≡ true }
-    requires image_value_2 { sound (chain_in image.old) ≡ true }
+    requires image_form { is_image image.old ≡ true }
+    requires chain_sound { sound (chain_in image.old) ≡ true }
     ensures value { result ≡ (event_of (Enable level) (chain_in image.old)).answer }
-    ensures image_after { is_image image.new ≡ true }
-    ensures image_after_2 { chain_in image.new ≡ (event_of (Enable level) (chain_in image.old)).chain }
+    ensures form_after { is_image image.new ≡ true }
+    ensures chain_after { chain_in image.new ≡ (event_of (Enable level) (chain_in image.old)).chain }
 {
     let seen = seen_round(image, image[COUNT], false);
     let judged = level_verdict(level);
@@ -130,11 +130,11 @@ pub(crate) fn enable(image: &mut [u8], level: u8) -> Answer
 
 // IACK falls.
 pub(crate) fn fall(image: &mut [u8]) -> Answer
-    requires image_value { is_image image.old ≡ true }
-    requires image_value_2 { sound (chain_in image.old) ≡ true }
+    requires image_form { is_image image.old ≡ true }
+    requires chain_sound { sound (chain_in image.old) ≡ true }
     ensures value { result ≡ (event_of Fall (chain_in image.old)).answer }
-    ensures image_after { is_image image.new ≡ true }
-    ensures image_after_2 { chain_in image.new ≡ (event_of Fall (chain_in image.old)).chain }
+    ensures form_after { is_image image.new ≡ true }
+    ensures chain_after { chain_in image.new ≡ (event_of Fall (chain_in image.old)).chain }
 {
     let at = looked_at(image, Look::of(Event::Fall, response_in(image)));
     let seen = seen_round(image, at, false);
@@ -147,11 +147,11 @@ pub(crate) fn fall(image: &mut [u8]) -> Answer
 
 // IACK rises.
 pub(crate) fn rise(image: &mut [u8]) -> Answer
-    requires image_value { is_image image.old ≡ true }
-    requires image_value_2 { sound (chain_in image.old) ≡ true }
+    requires image_form { is_image image.old ≡ true }
+    requires chain_sound { sound (chain_in image.old) ≡ true }
     ensures value { result ≡ (event_of Rise (chain_in image.old)).answer }
-    ensures image_after { is_image image.new ≡ true }
-    ensures image_after_2 { chain_in image.new ≡ (event_of Rise (chain_in image.old)).chain }
+    ensures form_after { is_image image.new ≡ true }
+    ensures chain_after { chain_in image.new ≡ (event_of Rise (chain_in image.old)).chain }
 {
     let at = looked_at(image, Look::of(Event::Rise, response_in(image)));
     let seen = seen_round(image, at, false);

@@ -16,11 +16,11 @@ use refusal::Answer;
 
 // Any of the eight.
 pub fn on(image: &mut [u8], e: Event) -> Answer
-    requires image_value { is_image image.old ≡ true }
-    requires image_value_2 { sound (chain_in image.old) ≡ true }
+    requires image_form { is_image image.old ≡ true }
+    requires chain_sound { sound (chain_in image.old) ≡ true }
     ensures value { result ≡ (event_of e (chain_in image.old)).answer }
-    ensures image_after { is_image image.new ≡ true }
-    ensures image_after_2 { chain_in image.new ≡ (event_of e (chain_in image.old)).chain }
+    ensures form_after { is_image image.new ≡ true }
+    ensures chain_after { chain_in image.new ≡ (event_of e (chain_in image.old)).chain }
 {
     match e {
         Event::Command(i, code) => command(image, i, code),

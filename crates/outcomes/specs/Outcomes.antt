@@ -4,8 +4,9 @@
 --     Asked lent args               is what a caller has to show of the arguments,
 --     Post lent args result after   is what the call has to show of its arguments, of its result, and of its arguments at the return.
 -- Here `lent` are the lifetimes of what is lent to the call, `tt` where nothing is, and `args` are its arguments in their order, as a list that ends in `tt`:
--- (s, (chip, tt)) are the arguments s and chip. At the return a value is as it was passed; a lent buffer may hold something else, and `at_last buffer x` is that
--- buffer with x in it. That a call ends is part of being proved.
+-- (s, (chip, tt)) are the arguments s and chip. A buffer that is lent to be read is a `Bor`, one that is lent to be written a `MutBor`. At the return a value is as it
+-- was passed, and so is what was lent to be read; a buffer that was lent to be written may hold something else, and `at_last buffer x` is that buffer with x in it.
+-- That a call ends is part of being proved.
 --
 -- For example `command`, the call `s.command(chip, code)`. Nothing is lent to it, and its arguments are a chain and two numbers, whatever they are. The field
 -- says three things. A caller may pass these: nothing is asked (`taken`). The outcome that the definitions give, `event_of (Command chip code) s`, is one that the

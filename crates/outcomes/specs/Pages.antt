@@ -7,7 +7,7 @@ use Rattle.event.specs.declared.Numbered.{Numbered}
 use Rattle.refusal.specs.declared.Answer.{Answer}
 use Rattle.chain.specs.declared.Chain.{Chain}
 use Rattle.text.specs.Written.{written}
-use Rattle.steps.proofs.line.step_of.Reads as step_of_lem
+use Rattle.steps.proofs.line.step_of.Reads as step_of_outcome
 use Rattle.steps.specs.Lines.{step_of}
 use Rattle.page.proofs.put_page.Reads as put-page
 use Rattle.page.specs.Page.{page_of}
@@ -31,7 +31,8 @@ taken_of said page = record { report = said.report; length = (page_of_reply said
 abbrev pub Puts : {L In : Type 0} → (L → In → Type 0) → (L → In → ℕ → In → Type 0) → L → (MutBor (List ℕ) → In) → MutBor (List ℕ) → ℕ → List ℕ → Type 0
 Puts asked post lent args to at text = let w : List ℕ × ℕ = written (to.now, at) text in Writes asked post lent args to w.1 w.0
 
--- a call that hands back a part of what it was lent: its outcome is the bytes of that part, wherever they lie. (As `Determined`)
+-- a call that hands back a part of what it was lent: its outcome is the bytes of that part, wherever they lie, so the promise is asked of the part with these
+-- bytes in it. (As `Determined`)
 abbrev pub Hands : {L In : Type 0} → (L → In → Type 0) → (L → In → Bor (List ℕ) → In → Type 0) → L → In → Bor (List ℕ) → List ℕ → Type 0
 Hands asked post lent args part given = Only (asked lent args) (λ (bytes : List ℕ). post lent args (record part { now = bytes }) args) given
 
@@ -40,7 +41,7 @@ pub record OnePage : Type 0 where
   pub new : Determined report-new.Asked report-new.Post tt tt at_first
   -- what a line says, of any lent bytes, started or not
   pub step : (lent : Lfts 1) (started : Bool) (line : Bor (List ℕ))
-      → Determined step_of_lem.Asked step_of_lem.Post lent (started, (line, tt)) (step_of started line.now)
+      → Determined step_of_outcome.Asked step_of_outcome.Post lent (started, (line, tt)) (step_of started line.now)
   -- the page of any line, step, answer and chain, written from any place on into a lent buffer of any length: the place behind it, and every byte of the buffer
   pub page : (lent : Lfts 1) (to : MutBor (List ℕ)) (at line : ℕ) (step : Numbered) (answer : Answer) (s : Chain)
       → Puts put-page.Asked put-page.Post lent (λ to. (to, (at, (line, (step, (answer, (s, tt))))))) to at (page_of line step answer s)

@@ -13,7 +13,7 @@ use Rattle.bits.specs.Byte.{bit, waiting, with_bit, without_bit}
 use Rattle.order.proofs.first_channel.Reads as first_channel_outcome
 use Rattle.order.specs.Order.{first_channel}
 use Rattle.search.proofs.Candidate.channel.Reads as candidate_channel
-use Rattle.search.proofs.Candidate.exists.Reads as candidate-exists
+use Rattle.search.proofs.Candidate.exists.Reads as candidate_exists
 use Rattle.search.proofs.Candidate.number.Reads as candidate_number_outcome
 use Rattle.search.proofs.candidate_of.Reads as candidate_of_outcome
 use Rattle.search.proofs.clear_highest.Reads as clear_highest_outcome
@@ -120,7 +120,7 @@ pub record OnePart : Type 0 where
   pub candidate_of_outcome : (irr imr isr mode pointer : ℕ)
       → Determined candidate_of_outcome.Asked candidate_of_outcome.Post tt (irr, (imr, (isr, (mode, (pointer, tt))))) (candidate irr imr isr mode pointer)
   pub clear_highest_outcome : (isr mode pointer : ℕ) → Determined clear_highest_outcome.Asked clear_highest_outcome.Post tt (isr, (mode, (pointer, tt))) (clear_highest isr mode pointer)
-  pub candidate-exists : (c : Candidate) → Determined candidate-exists.Asked candidate-exists.Post tt (c, tt) (exists c)
+  pub candidate_exists : (c : Candidate) → Determined candidate_exists.Asked candidate_exists.Post tt (c, tt) (exists c)
   pub candidate_channel : (c : Candidate) → Determined candidate_channel.Asked candidate_channel.Post tt (c, tt) (channel_of c)
   pub candidate_number_outcome : (c : Candidate) → Determined candidate_number_outcome.Asked candidate_number_outcome.Post tt (c, tt) (candidate_number c)
   -- figure4: what any code means

@@ -57,10 +57,10 @@ pub fn seen_round(image: &[u8], at: u8, ei: bool) -> Seen
 
 // The chip that is replaced, if one is.
 fn replace(image: &mut [u8], change: Change)
-    requires image_value { is_image image.old ≡ true }
+    requires image_form { is_image image.old ≡ true }
     requires at_bound { change.at < 8 }
-    ensures image_after { is_image image.new ≡ true }
-    ensures image_after_2 { chain_in image.new ≡ replaced_in change (chain_in image.old) }
+    ensures form_after { is_image image.new ≡ true }
+    ensures chain_after { chain_in image.new ≡ replaced_in change (chain_in image.old) }
 {
     if !change.replaces {
         return;
@@ -72,8 +72,8 @@ fn replace(image: &mut [u8], change: Change)
 // The chain's own fields, if they are set.
 fn set(image: &mut [u8], change: Change)
     requires { is_image image.old ≡ true }
-    ensures image_after { is_image image.new ≡ true }
-    ensures image_after_2 { chain_in image.new ≡ set_in change (chain_in image.old) }
+    ensures form_after { is_image image.new ≡ true }
+    ensures chain_after { chain_in image.new ≡ set_in change (chain_in image.old) }
 {
     if !change.sets {
         return;
@@ -84,10 +84,10 @@ fn set(image: &mut [u8], change: Change)
 
 // What is decided.
 pub fn apply(image: &mut [u8], change: Change)
-    requires image_value { is_image image.old ≡ true }
+    requires image_form { is_image image.old ≡ true }
     requires at_bound { change.at < 8 }
-    ensures image_after { is_image image.new ≡ true }
-    ensures image_after_2 { chain_in image.new ≡ applied change (chain_in image.old) }
+    ensures form_after { is_image image.new ≡ true }
+    ensures chain_after { chain_in image.new ≡ applied change (chain_in image.old) }
 {
     replace(image, change);
     set(image, change);

@@ -35,10 +35,10 @@ pub(crate) fn chip_round(image: &[u8], i: u8) -> Chip
 
 // Chip i replaced. Its place is worked out as `chip_round` does, so that the compiler sees the same record, and what is unchanged in it is not written.
 pub(crate) fn set_chip(image: &mut [u8], i: u8, chip: Chip)
-    requires image_value { is_image image.old ≡ true }
+    requires image_form { is_image image.old ≡ true }
     requires i_bound { i < 8 }
-    ensures image_after { is_image image.new ≡ true }
-    ensures image_after_2 { chain_in image.new ≡ with_chip i chip (chain_in image.old) }
+    ensures form_after { is_image image.new ≡ true }
+    ensures chain_after { chain_in image.new ≡ with_chip i chip (chain_in image.old) }
 {
     let at = RECORDS + RECORD * (i % 8) as usize;
     let end = at + RECORD;
@@ -48,8 +48,8 @@ pub(crate) fn set_chip(image: &mut [u8], i: u8, chip: Chip)
 // The chain's own fields set: Enable In, IACK and the response.
 pub(crate) fn set_own(image: &mut [u8], enable: bool, iack: bool, response: Response)
     requires { is_image image.old ≡ true }
-    ensures image_after { is_image image.new ≡ true }
-    ensures image_after_2 { chain_in image.new ≡ with_own enable iack response (chain_in image.old) }
+    ensures form_after { is_image image.new ≡ true }
+    ensures chain_after { chain_in image.new ≡ with_own enable iack response (chain_in image.old) }
 {
     let bytes = response_bytes(response);
     put_bytes(image, RESPONSE, &bytes);
@@ -60,8 +60,8 @@ pub(crate) fn set_own(image: &mut [u8], enable: bool, iack: bool, response: Resp
 // One more accepted event is counted.
 pub fn count_event(image: &mut [u8])
     requires { is_image image.old ≡ true }
-    ensures image_after { is_image image.new ≡ true }
-    ensures image_after_2 { chain_in image.new ≡ counted (chain_in image.old) }
+    ensures form_after { is_image image.new ≡ true }
+    ensures chain_after { chain_in image.new ≡ counted (chain_in image.old) }
 {
     let event = next_number(event_of(image[EVENT_LOW], image[EVENT_HIGH]));
     image[EVENT_LOW] = (event % 256) as u8;

@@ -27,11 +27,11 @@ before_room s bytes results h =
     (passed_rest (not (eqb (length bytes % 4) 0)) BrokenEvent (short_results (length bytes) (length results) ∷ [])
     (passed_rest (not (sound s)) NotSound (broken_event (length bytes) ∷ short_results (length bytes) (length results) ∷ []) (accepted_is _ h))))
 
-pub refused-before : (s : Chain) (bytes : List ℕ) (limit : ℕ) (results : List ℕ) (v : Verdict) → v ≡ before_any s bytes results
+pub refused_before : (s : Chain) (bytes : List ℕ) (limit : ℕ) (results : List ℕ) (v : Verdict) → v ≡ before_any s bytes results
     → is_accepted v ≡ false
     → run_of s bytes limit results ≡ stopped v 0 s results
 unfolding run_of
-refused-before s bytes limit results v is off = simp (← is, off)
+refused_before s bytes limit results v is off = simp (← is, off)
 
 pub none_before : (s : Chain) (bytes : List ℕ) (limit : ℕ) (results : List ℕ) (v : Verdict) → v ≡ before_any s bytes results
     → is_accepted v ≡ true

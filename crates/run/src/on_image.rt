@@ -27,11 +27,11 @@ fn least(a: usize, b: usize) -> usize
 
 // A listed event: 12, kind outside 1 to 8, before the event's own refusals.
 fn step_in(image: &mut [u8], listed: Listed) -> Answer
-    requires image_value { is_image image.old ≡ true }
-    requires image_value_2 { sound (chain_in image.old) ≡ true }
+    requires image_form { is_image image.old ≡ true }
+    requires chain_sound { sound (chain_in image.old) ≡ true }
     ensures value { result ≡ (listed_outcome listed (chain_in image.old)).answer }
-    ensures image_after { is_image image.new ≡ true }
-    ensures image_after_2 { chain_in image.new ≡ (listed_outcome listed (chain_in image.old)).chain }
+    ensures form_after { is_image image.new ≡ true }
+    ensures chain_after { chain_in image.new ≡ (listed_outcome listed (chain_in image.old)).chain }
 {
     match listed {
         Listed::Known(e) => on(image, e),
@@ -51,11 +51,11 @@ fn note(results: &mut [u8], n: usize, answer: Answer)
 
 // The first so many events of the list.
 fn perform_in(image: &mut [u8], bytes: &[u8], count: usize, results: &mut [u8]) -> Reached
-    requires image_value { is_image image.old ≡ true }
-    requires image_value_2 { sound (chain_in image.old) ≡ true }
+    requires image_form { is_image image.old ≡ true }
+    requires chain_sound { sound (chain_in image.old) ≡ true }
     requires count_in_bounds { 4 * count ≤ length bytes.now }
-    requires count_in_bounds_2 { 2 * count ≤ length results.old }
-    ensures image_after { is_image image.new ≡ true }
+    requires room_in_bounds { 2 * count ≤ length results.old }
+    ensures form_after { is_image image.new ≡ true }
     ensures results_after { stopped result.verdict result.accepted (chain_in image.new) results.new
         ≡ run_from count bytes.now 0 (chain_in image.old) results.old }
 {
@@ -80,9 +80,9 @@ fn perform_in(image: &mut [u8], bytes: &[u8], count: usize, results: &mut [u8]) 
 
 // A run over an image, for what nothing refuses before any event.
 pub fn run_in(image: &mut [u8], bytes: &[u8], limit: usize, results: &mut [u8]) -> Reached
-    requires image_value { is_image image.old ≡ true }
+    requires image_form { is_image image.old ≡ true }
     requires results_value { is_accepted (before_any (chain_in image.old) bytes.now results.old) ≡ true }
-    ensures image_after { is_image image.new ≡ true }
+    ensures form_after { is_image image.new ≡ true }
     ensures results_after { stopped result.verdict result.accepted (chain_in image.new) results.new
         ≡ run_of (chain_in image.old) bytes.now limit results.old }
 {

@@ -31,10 +31,10 @@ no_fence : (last : ℕ) → fence last 0 ≡ 8
 unfolding first_in
 no_fence last = first_none 8 (λ place. bit 0 (channel_at last place)) (λ place h. tested 8 (bit 0) (λ k. false) tt (channel_at last place) (channel_lt last place))
 
-pub candidate-exists : (irr imr mode pointer : ℕ) → bit mode 7 ≡ true → first_waiting (last_of mode pointer) irr imr < 8
+pub candidate_exists : (irr imr mode pointer : ℕ) → bit mode 7 ≡ true → first_waiting (last_of mode pointer) irr imr < 8
     → exists (candidate irr imr 0 mode pointer) ≡ true
 unfolding candidate candidate_in
-candidate-exists irr imr mode pointer armed h = simp (armed, no_fence (last_of mode pointer), lt-ltb _ _ h)
+candidate_exists irr imr mode pointer armed h = simp (armed, no_fence (last_of mode pointer), lt-ltb _ _ h)
 
 -- the place of a channel in the order that ends with `last`
 abbrev pub place_of : ℕ → ℕ → ℕ

@@ -7,7 +7,7 @@ use Rattle.refusal.specs.Numbers.{is_accepted}
 use Rattle.image.proofs.OneToOne.{of_the_layout, read_back}
 use Rattle.image.specs.OneToOne.{Whole}
 use Rattle.image.specs.Reading.{chain_in, is_image}
-use Rattle.run.proofs.Before.{refused-before}
+use Rattle.run.proofs.Before.{refused_before}
 use Rattle.run.proofs.Owned.{chips_whole}
 use Rattle.run.specs.Run.{stopped, before_any, run_of}
 use Rattle.run.proofs.run.Goals as goal
@@ -16,7 +16,7 @@ pub returns-then-not-is_accepted : goal.returns-then-not-is_accepted
 unfolding before_any
 returns-then-not-is_accepted c =
     let ended : run_of c.args.chain c.args.bytes.now c.args.limit c.args.results.now ≡ stopped c.before_any-verdict.result 0 c.args.chain c.args.results.now =
-    refused-before c.args.chain c.args.bytes.now c.args.limit c.args.results.now c.before_any-verdict.result c.before_any-verdict.ensures (sym c.is_accepted.ensures ∙ c.if-not-is_accepted.true) in
+    refused_before c.args.chain c.args.bytes.now c.args.limit c.args.results.now c.before_any-verdict.result c.before_any-verdict.ensures (sym c.is_accepted.ensures ∙ c.if-not-is_accepted.true) in
     record {
       value = c.stopped.ensures ∙ sym (ap (λ r. r.ran) ended);
       results_after = sym (ap (λ r. r.results) ended);
@@ -32,7 +32,7 @@ run_in-reached-requires c =
       whole_chips = λ i h. chips_whole c.args.chain.chips owned.0 owned.1.1 i (subst (λ (n : ℕ). i < n) (sym eight) h);
     } in
     let same : chain_in c.put_chain.new.image ≡ c.args.chain = ap chain_in c.put_chain.ensures ∙ read_back c.args.chain whole in record {
-      image_value = ap is_image c.put_chain.ensures ∙ of_the_layout c.args.chain whole;
+      image_form = ap is_image c.put_chain.ensures ∙ of_the_layout c.args.chain whole;
       results_value = ap (λ s. is_accepted (before_any s c.args.bytes.now c.args.results.now)) same ∙ ap is_accepted (sym c.before_any-verdict.ensures) ∙ sym c.is_accepted.ensures ∙ c.if-not-is_accepted.false;
     }
 

@@ -9,8 +9,8 @@ use Rattle.chain.proofs.Chain.on_sound.Goals as goal
 
 pub change-requires : goal.change-requires
 change-requires c = record {
-  self_value = seen_asked c.args.e c.args.self _ (c.seen-seen.ensures ∙ ap (λ (look : Look). seen_in look c.args.self) c.of.ensures) c.requires;
-  self_value_2 = sym c.verdict-judged.ensures ∙ c.in-Accepted.is;
+  sound_seen = seen_asked c.args.e c.args.self _ (c.seen-seen.ensures ∙ ap (λ (look : Look). seen_in look c.args.self) c.of.ensures) c.requires;
+  accepted_event = sym c.verdict-judged.ensures ∙ c.in-Accepted.is;
 }
 
 pub returns-in-Accepted : goal.returns-in-Accepted

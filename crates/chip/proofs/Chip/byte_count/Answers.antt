@@ -4,4 +4,4 @@ use Rattle.chip.proofs.Soundness.{code_le}
 use Rattle.chip.proofs.Chip.byte_count.Goals as goal
 
 pub overflow_add-result : goal.overflow_add-result
-overflow_add-result c = let h = code_le _ _ c.requires.self_value c.requires.level_bound in omega arith
+overflow_add-result c = let h = code_le _ _ c.requires.sound_chip c.requires.level_bound in omega arith

@@ -16,12 +16,12 @@ event_is : (v : Seen) (e f : Event) → e ≡ f → verdict_on e v ≡ Accepted 
 event_is v e f is ok = ap (λ (e : Event). verdict_on e v) (sym is) ∙ ok
 
 pub data_write-requires : goal.data_write-requires
-data_write-requires c = seen_chip _ c.requires.self_value (passed_names c.args.e c.args.self (ap (λ (e : Event). leb (in_numbers e).kind 5) c.in-Data.is) c.requires.self_value_2)
+data_write-requires c = seen_chip _ c.requires.sound_seen (passed_names c.args.e c.args.self (ap (λ (e : Event). leb (in_numbers e).kind 5) c.in-Data.is) c.requires.accepted_event)
 
 pub fall-requires : goal.fall-requires
 fall-requires c = record {
-  self_value = c.requires.self_value;
-  iack_value = passed_fall c.args.self (event_is c.args.self c.args.e Fall c.in-Fall.is c.requires.self_value_2);
+  sound_seen = c.requires.sound_seen;
+  iack_high = passed_fall c.args.self (event_is c.args.self c.args.e Fall c.in-Fall.is c.requires.accepted_event);
 }
 
 pub returns-in-Command : goal.returns-in-Command

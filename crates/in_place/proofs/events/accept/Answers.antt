@@ -8,6 +8,6 @@ pub returns : goal.returns
 unfolding accepted
 returns c = record {
   value = refl;
-  image_after = c.count_event.ensures.image_after;
-  image_after_2 = c.count_event.ensures.image_after_2 ∙ ap counted c.apply.ensures.image_after_2;
+  form_after = c.count_event.ensures.form_after;
+  chain_after = c.count_event.ensures.chain_after ∙ ap counted c.apply.ensures.chain_after;
 }

@@ -10,26 +10,26 @@ use Rattle.in_place.proofs.events.command.Goals as goal
 pub accept-requires : goal.accept-requires
 unfolding chain_in
 accept-requires c = record {
-  image_value = c.requires.image_value;
-  at_bound = lands (Command c.args.i c.args.code) (chain_in c.args.image.now) _ _ c.seen_round-seen.ensures c.requires.image_value_2 (sym c.command_verdict-judged.ensures ∙ c.in-Accepted.is) c.command.ensures;
+  image_form = c.requires.image_form;
+  at_bound = lands (Command c.args.i c.args.code) (chain_in c.args.image.now) _ _ c.seen_round-seen.ensures c.requires.chain_sound (sym c.command_verdict-judged.ensures ∙ c.in-Accepted.is) c.command.ensures;
 }
 
 pub returns-in-Accepted : goal.returns-in-Accepted
 unfolding chain_in
 returns-in-Accepted c =
-    let is = does (Command c.args.i c.args.code) (chain_in c.args.image.now) _ _ c.seen_round-seen.ensures c.requires.image_value_2 (sym c.command_verdict-judged.ensures ∙ c.in-Accepted.is) c.command.ensures in
+    let is = does (Command c.args.i c.args.code) (chain_in c.args.image.now) _ _ c.seen_round-seen.ensures c.requires.chain_sound (sym c.command_verdict-judged.ensures ∙ c.in-Accepted.is) c.command.ensures in
     record {
       value = c.accept.ensures.value ∙ ap (λ (o : Outcome). o.answer) is;
-      image_after = c.accept.ensures.image_after;
-      image_after_2 = c.accept.ensures.image_after_2 ∙ ap (λ (o : Outcome). o.chain) is;
+      form_after = c.accept.ensures.form_after;
+      chain_after = c.accept.ensures.chain_after ∙ ap (λ (o : Outcome). o.chain) is;
     }
 
 pub returns-in-Refused : goal.returns-in-Refused
 unfolding chain_in refused
 returns-in-Refused c =
-    let is = declines (Command c.args.i c.args.code) (chain_in c.args.image.now) _ _ c.seen_round-seen.ensures c.requires.image_value_2 (sym c.command_verdict-judged.ensures ∙ c.in-Refused.is) in
+    let is = declines (Command c.args.i c.args.code) (chain_in c.args.image.now) _ _ c.seen_round-seen.ensures c.requires.chain_sound (sym c.command_verdict-judged.ensures ∙ c.in-Refused.is) in
     record {
       value = ap (λ (o : Outcome). o.answer) is;
-      image_after = c.requires.image_value;
-      image_after_2 = ap (λ (o : Outcome). o.chain) is;
+      form_after = c.requires.image_form;
+      chain_after = ap (λ (o : Outcome). o.chain) is;
     }

@@ -10,31 +10,31 @@ use Rattle.image.proofs.OneToOne.{image_length}
 use Rattle.in_place.proofs.events.enable.Goals as goal
 
 pub slice_reshared_read-seen_round : goal.slice_reshared_read-seen_round
-slice_reshared_read-seen_round c = omega (arith, image_length c.args.image.now c.requires.image_value)
+slice_reshared_read-seen_round c = omega (arith, image_length c.args.image.now c.requires.image_form)
 
 pub accept-requires : goal.accept-requires
 unfolding chain_in
 accept-requires c = record {
-  image_value = c.requires.image_value;
-  at_bound = lands (Enable c.args.level) (chain_in c.args.image.now) _ _ c.seen_round-seen.ensures c.requires.image_value_2 (sym c.level_verdict-judged.ensures ∙ c.in-Accepted.is) c.enable.ensures;
+  image_form = c.requires.image_form;
+  at_bound = lands (Enable c.args.level) (chain_in c.args.image.now) _ _ c.seen_round-seen.ensures c.requires.chain_sound (sym c.level_verdict-judged.ensures ∙ c.in-Accepted.is) c.enable.ensures;
 }
 
 pub returns-in-Accepted : goal.returns-in-Accepted
 unfolding chain_in
 returns-in-Accepted c =
-    let is = does (Enable c.args.level) (chain_in c.args.image.now) _ _ c.seen_round-seen.ensures c.requires.image_value_2 (sym c.level_verdict-judged.ensures ∙ c.in-Accepted.is) c.enable.ensures in
+    let is = does (Enable c.args.level) (chain_in c.args.image.now) _ _ c.seen_round-seen.ensures c.requires.chain_sound (sym c.level_verdict-judged.ensures ∙ c.in-Accepted.is) c.enable.ensures in
     record {
       value = c.accept.ensures.value ∙ ap (λ (o : Outcome). o.answer) is;
-      image_after = c.accept.ensures.image_after;
-      image_after_2 = c.accept.ensures.image_after_2 ∙ ap (λ (o : Outcome). o.chain) is;
+      form_after = c.accept.ensures.form_after;
+      chain_after = c.accept.ensures.chain_after ∙ ap (λ (o : Outcome). o.chain) is;
     }
 
 pub returns-in-Refused : goal.returns-in-Refused
 unfolding chain_in refused
 returns-in-Refused c =
-    let is = declines (Enable c.args.level) (chain_in c.args.image.now) _ _ c.seen_round-seen.ensures c.requires.image_value_2 (sym c.level_verdict-judged.ensures ∙ c.in-Refused.is) in
+    let is = declines (Enable c.args.level) (chain_in c.args.image.now) _ _ c.seen_round-seen.ensures c.requires.chain_sound (sym c.level_verdict-judged.ensures ∙ c.in-Refused.is) in
     record {
       value = ap (λ (o : Outcome). o.answer) is;
-      image_after = c.requires.image_value;
-      image_after_2 = ap (λ (o : Outcome). o.chain) is;
+      form_after = c.requires.image_form;
+      chain_after = ap (λ (o : Outcome). o.chain) is;
     }

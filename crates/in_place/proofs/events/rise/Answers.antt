@@ -17,31 +17,31 @@ use Rattle.parts.specs.Round.{seen_round}
 use Rattle.in_place.proofs.events.rise.Goals as goal
 
 pub response_in-requires : goal.response_in-requires
-response_in-requires c = omega (arith, image_length c.args.image.now c.requires.image_value)
+response_in-requires c = omega (arith, image_length c.args.image.now c.requires.image_form)
 
 pub accept-requires : goal.accept-requires
 unfolding chain_in
 accept-requires c = record {
-  image_value = c.requires.image_value;
-  at_bound = lands Rise (chain_in c.args.image.now) _ _ (c.seen_round-seen.ensures ∙ ap₂ (λ (at : ℕ) (ei : Bool). seen_round at ei (chain_in c.args.image.now)) (c.looked_at-at.ensures ∙ ap (λ (look : Look). looked_at look (chain_in c.args.image.now)) (c.of.ensures ∙ ap (look_of Rise) c.response_in.ensures)) (sym (no_ei Nowhere (chain_in c.args.image.now).response (chain_in c.args.image.now) refl))) c.requires.image_value_2 (sym c.rise_verdict-judged.ensures ∙ c.in-Accepted.is) c.rise.ensures;
+  image_form = c.requires.image_form;
+  at_bound = lands Rise (chain_in c.args.image.now) _ _ (c.seen_round-seen.ensures ∙ ap₂ (λ (at : ℕ) (ei : Bool). seen_round at ei (chain_in c.args.image.now)) (c.looked_at-at.ensures ∙ ap (λ (look : Look). looked_at look (chain_in c.args.image.now)) (c.of.ensures ∙ ap (look_of Rise) c.response_in.ensures)) (sym (no_ei Nowhere (chain_in c.args.image.now).response (chain_in c.args.image.now) refl))) c.requires.chain_sound (sym c.rise_verdict-judged.ensures ∙ c.in-Accepted.is) c.rise.ensures;
 }
 
 pub returns-in-Accepted : goal.returns-in-Accepted
 unfolding chain_in
 returns-in-Accepted c =
-    let is = does Rise (chain_in c.args.image.now) _ _ (c.seen_round-seen.ensures ∙ ap₂ (λ (at : ℕ) (ei : Bool). seen_round at ei (chain_in c.args.image.now)) (c.looked_at-at.ensures ∙ ap (λ (look : Look). looked_at look (chain_in c.args.image.now)) (c.of.ensures ∙ ap (look_of Rise) c.response_in.ensures)) (sym (no_ei Nowhere (chain_in c.args.image.now).response (chain_in c.args.image.now) refl))) c.requires.image_value_2 (sym c.rise_verdict-judged.ensures ∙ c.in-Accepted.is) c.rise.ensures in
+    let is = does Rise (chain_in c.args.image.now) _ _ (c.seen_round-seen.ensures ∙ ap₂ (λ (at : ℕ) (ei : Bool). seen_round at ei (chain_in c.args.image.now)) (c.looked_at-at.ensures ∙ ap (λ (look : Look). looked_at look (chain_in c.args.image.now)) (c.of.ensures ∙ ap (look_of Rise) c.response_in.ensures)) (sym (no_ei Nowhere (chain_in c.args.image.now).response (chain_in c.args.image.now) refl))) c.requires.chain_sound (sym c.rise_verdict-judged.ensures ∙ c.in-Accepted.is) c.rise.ensures in
     record {
       value = c.accept.ensures.value ∙ ap (λ (o : Outcome). o.answer) is;
-      image_after = c.accept.ensures.image_after;
-      image_after_2 = c.accept.ensures.image_after_2 ∙ ap (λ (o : Outcome). o.chain) is;
+      form_after = c.accept.ensures.form_after;
+      chain_after = c.accept.ensures.chain_after ∙ ap (λ (o : Outcome). o.chain) is;
     }
 
 pub returns-in-Refused : goal.returns-in-Refused
 unfolding chain_in refused
 returns-in-Refused c =
-    let is = declines Rise (chain_in c.args.image.now) _ _ (c.seen_round-seen.ensures ∙ ap₂ (λ (at : ℕ) (ei : Bool). seen_round at ei (chain_in c.args.image.now)) (c.looked_at-at.ensures ∙ ap (λ (look : Look). looked_at look (chain_in c.args.image.now)) (c.of.ensures ∙ ap (look_of Rise) c.response_in.ensures)) (sym (no_ei Nowhere (chain_in c.args.image.now).response (chain_in c.args.image.now) refl))) c.requires.image_value_2 (sym c.rise_verdict-judged.ensures ∙ c.in-Refused.is) in
+    let is = declines Rise (chain_in c.args.image.now) _ _ (c.seen_round-seen.ensures ∙ ap₂ (λ (at : ℕ) (ei : Bool). seen_round at ei (chain_in c.args.image.now)) (c.looked_at-at.ensures ∙ ap (λ (look : Look). looked_at look (chain_in c.args.image.now)) (c.of.ensures ∙ ap (look_of Rise) c.response_in.ensures)) (sym (no_ei Nowhere (chain_in c.args.image.now).response (chain_in c.args.image.now) refl))) c.requires.chain_sound (sym c.rise_verdict-judged.ensures ∙ c.in-Refused.is) in
     record {
       value = ap (λ (o : Outcome). o.answer) is;
-      image_after = c.requires.image_value;
-      image_after_2 = ap (λ (o : Outcome). o.chain) is;
+      form_after = c.requires.image_form;
+      chain_after = ap (λ (o : Outcome). o.chain) is;
     }

@@ -13,26 +13,26 @@ use Rattle.in_place.proofs.events.status.Goals as goal
 pub accept-requires : goal.accept-requires
 unfolding chain_in walked_to
 accept-requires c = record {
-  image_value = c.requires.image_value;
-  at_bound = lands (Status c.args.i) (chain_in c.args.image.now) _ _ (c.seen_round-seen.ensures ∙ ap (λ (w : Walk). seen_round c.args.i w.ei (chain_in c.args.image.now)) c.walked.ensures) c.requires.image_value_2 (sym c.bus_verdict-judged.ensures ∙ c.in-Accepted.is) c.status.ensures;
+  image_form = c.requires.image_form;
+  at_bound = lands (Status c.args.i) (chain_in c.args.image.now) _ _ (c.seen_round-seen.ensures ∙ ap (λ (w : Walk). seen_round c.args.i w.ei (chain_in c.args.image.now)) c.walked.ensures) c.requires.chain_sound (sym c.bus_verdict-judged.ensures ∙ c.in-Accepted.is) c.status.ensures;
 }
 
 pub returns-in-Accepted : goal.returns-in-Accepted
 unfolding chain_in walked_to
 returns-in-Accepted c =
-    let is = does (Status c.args.i) (chain_in c.args.image.now) _ _ (c.seen_round-seen.ensures ∙ ap (λ (w : Walk). seen_round c.args.i w.ei (chain_in c.args.image.now)) c.walked.ensures) c.requires.image_value_2 (sym c.bus_verdict-judged.ensures ∙ c.in-Accepted.is) c.status.ensures in
+    let is = does (Status c.args.i) (chain_in c.args.image.now) _ _ (c.seen_round-seen.ensures ∙ ap (λ (w : Walk). seen_round c.args.i w.ei (chain_in c.args.image.now)) c.walked.ensures) c.requires.chain_sound (sym c.bus_verdict-judged.ensures ∙ c.in-Accepted.is) c.status.ensures in
     record {
       value = c.accept.ensures.value ∙ ap (λ (o : Outcome). o.answer) is;
-      image_after = c.accept.ensures.image_after;
-      image_after_2 = c.accept.ensures.image_after_2 ∙ ap (λ (o : Outcome). o.chain) is;
+      form_after = c.accept.ensures.form_after;
+      chain_after = c.accept.ensures.chain_after ∙ ap (λ (o : Outcome). o.chain) is;
     }
 
 pub returns-in-Refused : goal.returns-in-Refused
 unfolding chain_in walked_to refused
 returns-in-Refused c =
-    let is = declines (Status c.args.i) (chain_in c.args.image.now) _ _ (c.seen_round-seen.ensures ∙ ap (λ (w : Walk). seen_round c.args.i w.ei (chain_in c.args.image.now)) c.walked.ensures) c.requires.image_value_2 (sym c.bus_verdict-judged.ensures ∙ c.in-Refused.is) in
+    let is = declines (Status c.args.i) (chain_in c.args.image.now) _ _ (c.seen_round-seen.ensures ∙ ap (λ (w : Walk). seen_round c.args.i w.ei (chain_in c.args.image.now)) c.walked.ensures) c.requires.chain_sound (sym c.bus_verdict-judged.ensures ∙ c.in-Refused.is) in
     record {
       value = ap (λ (o : Outcome). o.answer) is;
-      image_after = c.requires.image_value;
-      image_after_2 = ap (λ (o : Outcome). o.chain) is;
+      form_after = c.requires.image_form;
+      chain_after = ap (λ (o : Outcome). o.chain) is;
     }

@@ -6,6 +6,6 @@ use Rattle.parts.proofs.apply.apply.Goals as goal
 pub returns : goal.returns
 unfolding applied
 returns c = record {
-  image_after = c.set.ensures.image_after;
-  image_after_2 = c.set.ensures.image_after_2 ∙ ap (set_in c.args.change) c.replace.ensures.image_after_2;
+  form_after = c.set.ensures.form_after;
+  chain_after = c.set.ensures.chain_after ∙ ap (set_in c.args.change) c.replace.ensures.chain_after;
 }

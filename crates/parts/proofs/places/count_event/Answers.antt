@@ -31,6 +31,6 @@ returns c =
     let written = ap (λ (n : ℕ). set (set b 3 (n % 256)) 4 (n / 256)) event in
     let held = event_set b (next_number (chain_in b).event) c.requires in
     record {
-      image_after = ap is_image written ∙ held.image;
-      image_after_2 = ap chain_in written ∙ held.holds_it;
+      form_after = ap is_image written ∙ held.image;
+      chain_after = ap chain_in written ∙ held.holds_it;
     }

@@ -16,7 +16,7 @@ use Rattle.parts.proofs.Parts.{chip_set}
 use Rattle.parts.proofs.places.set_chip.Goals as goal
 
 pub slice_bounds-put_chip-end : goal.slice_bounds-put_chip-end
-slice_bounds-put_chip-end c = omega (arith, image_length c.args.image.now c.requires.image_value, c.requires.i_bound)
+slice_bounds-put_chip-end c = omega (arith, image_length c.args.image.now c.requires.image_form, c.requires.i_bound)
 
 pub returns : goal.returns
 returns c =
@@ -28,8 +28,8 @@ returns c =
     let written : put_mid at (at + 64 - at) b c.put_chip.new.r ≡ over b at (chip_record c.args.chip) =
     ap (put_mid at (at + 64 - at) b) c.put_chip.ensures
     ∙ part_over b (chip_record c.args.chip) at (at + 64) (omega arith) (omega (arith, record_length c.args.chip whole)) in
-    let held = chip_set b k c.args.chip c.requires.image_value whole (omega arith) in
+    let held = chip_set b k c.args.chip c.requires.image_form whole (omega arith) in
     record {
-      image_after = ap is_image written ∙ held.image;
-      image_after_2 = ap chain_in written ∙ held.holds_it ∙ ap (λ (n : ℕ). with_chip n c.args.chip (chain_in b)) within;
+      form_after = ap is_image written ∙ held.image;
+      chain_after = ap chain_in written ∙ held.holds_it ∙ ap (λ (n : ℕ). with_chip n c.args.chip (chain_in b)) within;
     }

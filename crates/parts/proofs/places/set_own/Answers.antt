@@ -29,6 +29,6 @@ returns c =
     let levels = ap₂ (λ (e i : ℕ). set (set c.put_bytes.new.to 1 e) 2 i) c.digit_of.ensures.value c.digit_of-2.ensures.value in
     let written = levels ∙ ap (λ (l : List ℕ). set (set l 1 (digit c.args.enable)) 2 (digit c.args.iack)) put in
     record {
-      image_after = ap is_image written ∙ held.image;
-      image_after_2 = ap chain_in written ∙ held.holds_it;
+      form_after = ap is_image written ∙ held.image;
+      chain_after = ap chain_in written ∙ held.holds_it;
     }

@@ -4,7 +4,7 @@ use Rattle.response.proofs.Reply.of.Goals as goal
 
 pub response_length-length-requires : goal.response_length-length-requires
 response_length-length-requires c = record {
-  self_value = c.requires;
+  sound_chip = c.requires;
   channel_bound = rw (c.channel-channel.ensures, c.candidate-candidate.ensures) (candidate_lt _ _ _ _ _);
 }
 

@@ -20,19 +20,19 @@ use Rattle.run.specs.Run.{noted, run_from, stopped, listed_outcome}
 use Rattle.run.proofs.on_image.perform_in.Goals as goal
 
 pub loop-n-init : goal.loop-n-init
-loop-n-init c = (omega arith, c.requires.image_value, c.requires.image_value_2, refl, ap (λ left. run_from left c.args.bytes.now 0 (chain_in c.args.image.now) c.args.results.now) (sym (sub-zero _)))
+loop-n-init c = (omega arith, c.requires.image_form, c.requires.chain_sound, refl, ap (λ left. run_from left c.args.bytes.now 0 (chain_in c.args.image.now) c.args.results.now) (sym (sub-zero _)))
 
 pub listed_at-requires : goal.listed_at-requires
 listed_at-requires c = omega (arith, c.requires.count_in_bounds)
 
 pub step_in-answer-requires : goal.step_in-answer-requires
 step_in-answer-requires c = record {
-  image_value = c.loop-n.invariant.1;
-  image_value_2 = c.loop-n.invariant.2;
+  image_form = c.loop-n.invariant.1;
+  chain_sound = c.loop-n.invariant.2;
 }
 
 pub shape_of-image-then-not-is_accepted : goal.shape_of-image-then-not-is_accepted
-shape_of-image-then-not-is_accepted c = image_length c.step_in-answer.new.image c.step_in-answer.ensures.image_after ∙ sym (image_length c.args.image.now c.requires.image_value)
+shape_of-image-then-not-is_accepted c = image_length c.step_in-answer.new.image c.step_in-answer.ensures.form_after ∙ sym (image_length c.args.image.now c.requires.image_form)
 
 pub shape_of-results-then-not-is_accepted : goal.shape_of-results-then-not-is_accepted
 shape_of-results-then-not-is_accepted c = c.loop-n.invariant.3
@@ -44,17 +44,17 @@ returns-then-not-is_accepted c =
     let s : Chain = chain_in c.loop-n.image in
     let o : Outcome = listed_outcome (listed_at bytes n) s in
     let answered : c.step_in-answer.result ≡ o.answer = c.step_in-answer.ensures.value ∙ ap (λ l. (listed_outcome l s).answer) c.listed_at.ensures in
-    let left : chain_in c.step_in-answer.new.image ≡ o.chain = c.step_in-answer.ensures.image_after_2 ∙ ap (λ l. (listed_outcome l s).chain) c.listed_at.ensures in
+    let left : chain_in c.step_in-answer.new.image ≡ o.chain = c.step_in-answer.ensures.chain_after ∙ ap (λ l. (listed_outcome l s).chain) c.listed_at.ensures in
     let told : is_accepted (verdict_in o.answer) ≡ c.is_accepted.result = ap (λ a. is_accepted (verdict_in a)) (sym answered) ∙ ap is_accepted (sym c.verdict-verdict.ensures) ∙ sym c.is_accepted.ensures in
     let off : is_accepted (verdict_in o.answer) ≡ false = told ∙ c.if-not-is_accepted.true in
     let ended : run_from c.args.count bytes 0 (chain_in c.args.image.now) c.args.results.now ≡ stopped (verdict_in o.answer) n s c.loop-n.results =
     c.loop-n.invariant.4 ∙ stops (c.args.count - n) (c.args.count - (n + 1)) bytes n s c.loop-n.results o (omega arith) refl off in record {
-      image_after = c.step_in-answer.ensures.image_after;
+      form_after = c.step_in-answer.ensures.form_after;
       results_after = ap₂ (λ v t. stopped v n t c.loop-n.results) (c.verdict-verdict.ensures ∙ ap verdict_in answered) (left ∙ step_same (listed_at bytes n) s off) ∙ sym ended;
     }
 
 pub note-requires : goal.note-requires
-note-requires c = omega (arith, c.requires.count_in_bounds_2, c.loop-n.invariant.3)
+note-requires c = omega (arith, c.requires.room_in_bounds, c.loop-n.invariant.3)
 
 pub overflow_add-n : goal.overflow_add-n
 overflow_add-n c = omega (arith, c.requires.count_in_bounds)
@@ -69,12 +69,12 @@ loop-n-preserved c =
     let s : Chain = chain_in c.loop-n.image in
     let o : Outcome = listed_outcome (listed_at bytes n) s in
     let answered : c.step_in-answer.result ≡ o.answer = c.step_in-answer.ensures.value ∙ ap (λ l. (listed_outcome l s).answer) c.listed_at.ensures in
-    let left : chain_in c.step_in-answer.new.image ≡ o.chain = c.step_in-answer.ensures.image_after_2 ∙ ap (λ l. (listed_outcome l s).chain) c.listed_at.ensures in
+    let left : chain_in c.step_in-answer.new.image ≡ o.chain = c.step_in-answer.ensures.chain_after ∙ ap (λ l. (listed_outcome l s).chain) c.listed_at.ensures in
     let told : is_accepted (verdict_in o.answer) ≡ c.is_accepted.result = ap (λ a. is_accepted (verdict_in a)) (sym answered) ∙ ap is_accepted (sym c.verdict-verdict.ensures) ∙ sym c.is_accepted.ensures in
     let on : is_accepted (verdict_in o.answer) ≡ true = told ∙ c.if-not-is_accepted.false in
     let noted_here : noted n (handed o.answer) c.loop-n.results ≡ c.note.new.results = ap (λ a. noted n (handed a) c.loop-n.results) (sym answered) ∙ sym c.note.ensures in (
       omega arith,
-      c.step_in-answer.ensures.image_after,
+      c.step_in-answer.ensures.form_after,
       ap sound left ∙ step_sound (listed_at bytes n) s c.loop-n.invariant.2,
       ap length (sym noted_here) ∙ noted-length n (handed o.answer) c.loop-n.results ∙ c.loop-n.invariant.3,
       c.loop-n.invariant.4
@@ -83,7 +83,7 @@ loop-n-preserved c =
     )
 
 pub shape_of-image : goal.shape_of-image
-shape_of-image c = image_length c.loop-n.image c.loop-n.invariant.1 ∙ sym (image_length c.args.image.now c.requires.image_value)
+shape_of-image c = image_length c.loop-n.image c.loop-n.invariant.1 ∙ sym (image_length c.args.image.now c.requires.image_form)
 
 pub shape_of-results : goal.shape_of-results
 shape_of-results c = c.loop-n.invariant.3
@@ -97,6 +97,6 @@ returns c =
     c.loop-n.invariant.4
     ∙ ap (λ left. run_from left c.args.bytes.now c.loop-n.n (chain_in c.loop-n.image) c.loop-n.results) none_left
     ∙ ap (λ n. stopped Verdict.Accepted n (chain_in c.loop-n.image) c.loop-n.results) at-end in record {
-      image_after = c.loop-n.invariant.1;
+      form_after = c.loop-n.invariant.1;
       results_after = sym ended;
     }

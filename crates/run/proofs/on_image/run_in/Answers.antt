@@ -8,10 +8,10 @@ use Rattle.run.proofs.on_image.run_in.Goals as goal
 
 pub perform_in-requires : goal.perform_in-requires
 perform_in-requires c = record {
-  image_value = c.requires.image_value;
-  image_value_2 = before-sound (chain_in c.args.image.now) c.args.bytes.now c.args.results.now c.requires.results_value;
+  image_form = c.requires.image_form;
+  chain_sound = before-sound (chain_in c.args.image.now) c.args.bytes.now c.args.results.now c.requires.results_value;
   count_in_bounds = omega (arith, c.least.ensures);
-  count_in_bounds_2 = omega (arith, c.least.ensures, before_room (chain_in c.args.image.now) c.args.bytes.now c.args.results.now c.requires.results_value);
+  room_in_bounds = omega (arith, c.least.ensures, before_room (chain_in c.args.image.now) c.args.bytes.now c.args.results.now c.requires.results_value);
 }
 
 pub returns : goal.returns
@@ -20,6 +20,6 @@ returns c =
     ap (λ count. run_from count c.args.bytes.now 0 (chain_in c.args.image.now) c.args.results.now) c.least.ensures
     ∙ sym (none_before (chain_in c.args.image.now) c.args.bytes.now c.args.limit c.args.results.now (before_any (chain_in c.args.image.now) c.args.bytes.now c.args.results.now) refl c.requires.results_value) in
     record {
-      image_after = c.perform_in.ensures.image_after;
+      form_after = c.perform_in.ensures.form_after;
       results_after = c.perform_in.ensures.results_after ∙ is;
     }
