@@ -1,9 +1,7 @@
 -- Document 01, "Numbers handed back": the table, and "the first that applies, in this order".
-use Rattle.std.specs.Prelude.{Bool, true, false, cond, List, [], ◌∷◌, ℕ}
+use Rattle.std.specs.Prelude.{Bool, true, false, cond, List, [], ◌∷◌, Option, Result, Ok, Err, ℕ}
 use Rattle.refusal.specs.declared.Refusal.{Refusal}
 use Rattle.refusal.specs.declared.Refusal.TheVariants.{NotSound, NoSuchChip, NoSuchChannel, NoSuchLevel, PulseUnderWay, IackThereAlready, UndefinedCommand, NoDestination, PastItsCount, BrokenEvent, ShortResults, UnknownKind}
-use Rattle.refusal.specs.declared.Verdict.{Verdict}
-use Rattle.refusal.specs.declared.Verdict.TheVariants.{Accepted, Refused}
 
 abbrev pub refusal_number : Refusal → ℕ
 refusal_number NotSound = 1
@@ -19,15 +17,23 @@ refusal_number BrokenEvent = 10
 refusal_number ShortResults = 11
 refusal_number UnknownKind = 12
 
+-- what a call is told before it changes anything: accepted, or why it is refused
+abbrev pub Verdict : Type 0
+Verdict = Result Unit Refusal
+
+-- what an event answers: a byte where one was driven or read; or why it is refused
+abbrev pub Answer : Type 0
+Answer = Result (Option ℕ) Refusal
+
 abbrev pub verdict_number : Verdict → ℕ
-verdict_number Accepted = 0
-verdict_number (Refused why) = refusal_number why
+verdict_number (Ok _) = 0
+verdict_number (Err why) = refusal_number why
 
 abbrev pub is_accepted : Verdict → Bool
-is_accepted Accepted = true
-is_accepted (Refused why) = false
+is_accepted (Ok _) = true
+is_accepted (Err why) = false
 
 -- of a list of tests, each with the refusal that it gives, the first that applies; accepted if none does
 abbrev pub first_of_list : List (Bool × Refusal) → Verdict
-first_of_list [] = Accepted
-first_of_list (check ∷ checks) = cond check.0 (Refused check.1) (first_of_list checks)
+first_of_list [] = Ok tt
+first_of_list (check ∷ checks) = cond check.0 (Err check.1) (first_of_list checks)

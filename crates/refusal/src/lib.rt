@@ -5,13 +5,13 @@
 ghost use Rattle.std.specs.Prelude.{◌≡◌};
 ghost use Rattle.refusal.specs.Numbers.{refusal_number, verdict_number, is_accepted};
 
-mod answers;
+pub mod answers;
 pub mod sentences;
 
 // The reasons, in the table's order.
-#[derive(Clone, Copy)]
+#[derive(Clone, Copy, Debug, PartialEq, Eq)]
 pub enum Refusal {
-    NotSound,
+    NotSound = 1,
     NoSuchChip,
     NoSuchChannel,
     NoSuchLevel,
@@ -25,61 +25,34 @@ pub enum Refusal {
     UnknownKind,
 }
 
-// What a call is told before it changes anything.
-#[derive(Clone, Copy)]
-pub enum Verdict {
-    Accepted,
-    Refused(Refusal),
-}
+// What a call is told before it changes anything: accepted, or why it is refused.
+pub type Verdict = Result<(), Refusal>;
 
-// What an event answers: a byte where one was driven or read.
-#[derive(Clone, Copy)]
-pub enum Answer {
-    Done,
-    Byte(u8),
-    Refused(Refusal),
-}
+// What an event answers: a byte where one was driven or read; or why it is refused.
+pub type Answer = Result<Option<u8>, Refusal>;
 
 impl Refusal {
     // Its number in the table.
     pub fn number(self) -> u8
         ensures { result ≡ refusal_number self }
     {
-        match self {
-            Refusal::NotSound => 1,
-            Refusal::NoSuchChip => 2,
-            Refusal::NoSuchChannel => 3,
-            Refusal::NoSuchLevel => 4,
-            Refusal::PulseUnderWay => 5,
-            Refusal::IackThereAlready => 6,
-            Refusal::UndefinedCommand => 7,
-            Refusal::NoDestination => 8,
-            Refusal::PastItsCount => 9,
-            Refusal::BrokenEvent => 10,
-            Refusal::ShortResults => 11,
-            Refusal::UnknownKind => 12,
-        }
+        self as u8
     }
 }
 
-impl Verdict {
-    // 0 for accepted, else the refusal's number.
-    pub fn number(self) -> u8
-        ensures { result ≡ verdict_number self }
-    {
-        match self {
-            Verdict::Accepted => 0,
-            Verdict::Refused(why) => why.number(),
-        }
+// The number of a verdict: 0 for accepted, else the refusal's.
+pub fn verdict_number(verdict: Verdict) -> u8
+    ensures { result ≡ verdict_number verdict }
+{
+    match verdict {
+        Ok(()) => 0,
+        Err(why) => why.number(),
     }
+}
 
-    // Whether nothing was refused.
-    pub fn is_accepted(self) -> bool
-        ensures { result ≡ is_accepted self }
-    {
-        match self {
-            Verdict::Accepted => true,
-            Verdict::Refused(_) => false,
-        }
-    }
+// Whether nothing was refused.
+pub fn is_accepted(verdict: Verdict) -> bool
+    ensures { result ≡ is_accepted verdict }
+{
+    verdict.is_ok()
 }
