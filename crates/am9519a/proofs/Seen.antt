@@ -1,5 +1,6 @@
 -- What a view hands back decides what its call does.
 -- Assumes nothing.
+use Rattle.std.specs.Prelude.{Err}
 use mathlib.Core.Bool.{Bool, true, false, not, cond}
 use mathlib.Core.List.{List, [], ◌∷◌}
 use mathlib.Core.Path.{◌≡◌, refl, ap, ◌∙◌}
@@ -11,8 +12,7 @@ use Rattle.refusal.proofs.Numbers.{refused_already, accepted_so_far}
 use Rattle.refusal.specs.Numbers.{verdict_number, is_accepted, first_of_list}
 use Rattle.refusal.specs.declared.Refusal.{Refusal}
 use Rattle.refusal.specs.declared.Refusal.TheVariants.{NotSound, ShortResults}
-use Rattle.refusal.specs.declared.Verdict.{Verdict}
-use Rattle.refusal.specs.declared.Verdict.TheVariants.{Refused}
+use Rattle.refusal.specs.Numbers.{Verdict}
 use Rattle.chain.proofs.Rules.{rules}
 use Rattle.chain.specs.Fields.{zero_chain}
 use Rattle.decide.specs.Refusals.{no_such_chip}
@@ -54,12 +54,12 @@ of_image bytes shown none n image chip view long on = either (is_accepted (view_
         viewed (view_verdict chip (chain_in image)) (bytes (cond ok shown none)) view ≡ called (view_check n image chip view) view (over view 0 (bytes shown))
     either true ok =
         let goes_on : view_check n image chip view ≡ first_of_list (short_buffer n view ∷ []) =
-        ap (λ is. cond (not is) (Refused NotSound) (first_of_list (not_sound (chain_in image) ∷ no_such_chip (chain_in image).count chip ∷ short_buffer n view ∷ []))) on
+        ap (λ is. cond (not is) (Err NotSound) (first_of_list (not_sound (chain_in image) ∷ no_such_chip (chain_in image).count chip ∷ short_buffer n view ∷ []))) on
         ∙ accepted_so_far (not_sound (chain_in image) ∷ no_such_chip (chain_in image).count chip ∷ []) (short_buffer n view ∷ []) ok in
         simp (ok, long, goes_on)
     either false ok =
         let stops : view_check n image chip view ≡ view_verdict chip (chain_in image) =
-        ap (λ is. cond (not is) (Refused NotSound) (first_of_list (not_sound (chain_in image) ∷ no_such_chip (chain_in image).count chip ∷ short_buffer n view ∷ []))) on
+        ap (λ is. cond (not is) (Err NotSound) (first_of_list (not_sound (chain_in image) ∷ no_such_chip (chain_in image).count chip ∷ short_buffer n view ∷ []))) on
         ∙ refused_already (not_sound (chain_in image) ∷ no_such_chip (chain_in image).count chip ∷ []) (short_buffer n view ∷ []) ok in
         simp (stops, ok)
 

@@ -8,7 +8,7 @@ use lib.ListN.{length}
 use borrow.Author.Tests.{ne_eqb, eq-eqb}
 use Rattle.refusal.proofs.Numbers.{not_both}
 use Rattle.refusal.specs.Numbers.{verdict_number, is_accepted}
-use Rattle.refusal.specs.declared.Verdict.{Verdict}
+use Rattle.refusal.specs.Numbers.{Verdict}
 use Rattle.refusal.specs.Answers.{verdict_in}
 use Rattle.chain.proofs.Rules.{rules}
 use Rattle.chain.specs.Fields.{zero_chain}

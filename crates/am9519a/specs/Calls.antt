@@ -1,12 +1,12 @@
 -- The C calls over a chain image, and that for the sentence of a number: the number that each hands back, and what the lent buffers hold afterwards.
 -- A call is the model's call between reading the image and writing it. A refused call leaves every buffer as it was.
+use Rattle.std.specs.Prelude.{Ok, Err}
 use Rattle.std.specs.Prelude.{cond, List, [], ◌∷◌, ℕ, ◌/◌, ◌%◌, eqb, ltb, length}
 use Rattle.refusal.specs.Answers.{verdict_in}
 use Rattle.refusal.specs.Numbers.{verdict_number, is_accepted}
 use Rattle.refusal.specs.Sentences.{meaning_of}
 use Rattle.refusal.specs.declared.Refusal.TheVariants.{NotSound, ShortResults}
-use Rattle.refusal.specs.declared.Verdict.{Verdict}
-use Rattle.refusal.specs.declared.Verdict.TheVariants.{Accepted, Refused}
+use Rattle.refusal.specs.Numbers.{Verdict}
 use Rattle.chain.specs.Fields.{zero_chain}
 use Rattle.chain.specs.Start.{start_of}
 use Rattle.chain.specs.declared.Chain.{Chain}
@@ -37,7 +37,7 @@ called verdict old new = record { number = verdict_number verdict; buffer = cond
 unfoldable pub start_call : ℕ → ℕ → List ℕ → Called
 start_call count fill image =
     called
-    (cond (eqb (length image) 528) (verdict_in (start_of count fill).answer) (Refused NotSound))
+    (cond (eqb (length image) 528) (verdict_in (start_of count fill).answer) (Err NotSound))
     image
     (image_of (start_of count fill).chain)
 
@@ -55,7 +55,7 @@ picture_bytes p =
 unfoldable pub viewed : Verdict → List ℕ → List ℕ → Called
 viewed verdict bytes view =
     called
-    (cond (is_accepted verdict) (cond (ltb (length view) (length bytes)) (Refused ShortResults) Accepted) verdict)
+    (cond (is_accepted verdict) (cond (ltb (length view) (length bytes)) (Err ShortResults) (Ok tt)) verdict)
     view
     (over view 0 bytes)
 

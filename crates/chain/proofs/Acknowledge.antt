@@ -1,5 +1,6 @@
 -- Who answers a first pulse: the chip that it selects has a candidate and M2 clear, and a chip that it reaches with these is selected.
 -- Assumes nothing.
+use Rattle.std.specs.Prelude.{Some, None}
 use mathlib.Core.Bool.{true, false, ◌&&◌}
 use mathlib.Core.Path.{◌≡◌, refl, sym, subst}
 use Prim.Native.Nat.{ℕ, zero, suc, ◌<◌}
@@ -11,8 +12,7 @@ use Rattle.search.specs.Candidate.{channel_of}
 use Rattle.chip.specs.Status.{is_armed, gint_active, candidate_of}
 use Rattle.response.specs.Held.{reply_of, is_idle, is_responding}
 use Rattle.response.specs.declared.Reply.{Reply}
-use Rattle.response.specs.declared.Response.{Response}
-use Rattle.response.specs.declared.Response.TheVariants.{Idle, UnderWay}
+use Rattle.response.specs.Held.{Response}
 use Rattle.decide.proofs.Soundness.{selected_is}
 use Rattle.decide.specs.Pulse.{selected_by}
 use Rattle.decide.specs.declared.Look.TheVariants.{Answering}
@@ -31,7 +31,7 @@ active_there : (s : Chain) → answering_chip s < s.count → gint_active (chip_
 unfolding answering_chip
 active_there s h = both_right (ei s (answering_chip s)) _ (first_passes s.count (λ i. ei s i && gint_active (chip_at s i)) h)
 
-pub selected_answers : (s : Chain) (r : Reply) → selected s ≡ UnderWay r → Answers s r
+pub selected_answers : (s : Chain) (r : Reply) → selected s ≡ Some r → Answers s r
 unfolding selected seen_at
 selected_answers s r is =
     let found = selected_is (seen_in Answering s) r is in
@@ -39,8 +39,8 @@ selected_answers s r is =
 
 -- with no response under way, EI stays high up to a chip before which all are armed
 none_responds : (response : Response) (i : ℕ) → is_idle response ≡ true → is_responding response i ≡ false
-none_responds Idle i e = refl
-none_responds (UnderWay r) i e = not_both e
+none_responds None i e = refl
+none_responds (Some r) i e = not_both e
 
 pub ei_high : (s : Chain) (i : ℕ) → is_idle s.response ≡ true → s.enable ≡ true → ((j : ℕ) → j < i → is_armed (chip_at s j) ≡ true) → ei s i ≡ true
 unfolding ei
@@ -56,7 +56,7 @@ reached_answers s i h high active none =
     first_is s.count (λ i. ei s i && gint_active (chip_at s i)) i h (λ j l. both_not (ei s j) _ (none j l)) (simp (high, active))
 
 pub reached_selected : (s : Chain) (i : ℕ) → i < s.count → ei s i ≡ true → gint_active (chip_at s i) ≡ true → ((j : ℕ) → j < i → gint_active (chip_at s j) ≡ false)
-    → selected s ≡ UnderWay (reply_of i (chip_at s i))
+    → selected s ≡ Some (reply_of i (chip_at s i))
 unfolding selected selected_by seen_at
 reached_selected s i h high active none =
     rw (reached_answers s i h high active none) (simp (lt-ltb i s.count h))

@@ -8,7 +8,7 @@ use Rattle.bits.proofs.Below.{first_more}
 use Rattle.chip.specs.Status.{gint_active}
 use Rattle.chip.specs.declared.Chip.{Chip}
 use Rattle.response.specs.Walk.{past}
-use Rattle.response.specs.declared.Response.{Response}
+use Rattle.response.specs.Held.{Response}
 use Rattle.response.specs.declared.Walk.{Walk}
 use Rattle.chain.specs.Fields.{chip_at}
 use Rattle.chain.specs.Pins.{ei}

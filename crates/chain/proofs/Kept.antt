@@ -1,5 +1,6 @@
 -- Every event keeps a sound chain sound, and start gives a sound one.
 -- Assumes nothing.
+use Rattle.std.specs.Prelude.{Ok, Err}
 use mathlib.Core.Bool.{Bool, true}
 use mathlib.Core.Logic.{⊎_elim}
 use mathlib.Core.Path.{◌≡◌, refl, ap, sym, subst, ◌∙◌}
@@ -13,8 +14,7 @@ use Rattle.bits.proofs.Stored.{stored}
 use Rattle.refusal.proofs.Numbers.{not_zero}
 use Rattle.refusal.specs.Answers.{handed}
 use Rattle.refusal.specs.declared.Refusal.TheVariants.{NotSound}
-use Rattle.refusal.specs.declared.Verdict.{Verdict}
-use Rattle.refusal.specs.declared.Verdict.TheVariants.{Accepted, Refused}
+use Rattle.refusal.specs.Numbers.{Verdict}
 use Rattle.event.specs.declared.Event.{Event}
 use Rattle.event.specs.declared.Event.TheVariants.{Rise}
 use Rattle.chip.proofs.Kept.{power_up-sound}
@@ -23,7 +23,7 @@ use Rattle.chip.specs.Reset.{power_up}
 use Rattle.chip.specs.Sound.{chip_sound}
 use Rattle.chip.specs.declared.Chip.{Chip}
 use Rattle.response.specs.Sound.{response_sound}
-use Rattle.response.specs.declared.Response.{Response}
+use Rattle.response.specs.Held.{Response}
 use Rattle.decide.proofs.Kept.{KeepsSound, AtResponding, decided_kept}
 use Rattle.decide.specs.Look.{unless_responding}
 use Rattle.decide.specs.declared.Change.{Change}
@@ -92,7 +92,7 @@ at_responding e s is =
     subst (λ (e : Event). AtResponding (seen_by e s)) (sym is)
     (λ r now. ap (λ (response : Response). looked_at (unless_responding Nowhere response) s) now)
 
-changed_kept : (e : Event) (s : Chain) → verdict_of e s ≡ Accepted → sound (changed e s) ≡ true
+changed_kept : (e : Event) (s : Chain) → verdict_of e s ≡ Ok tt → sound (changed e s) ≡ true
 unfolding changed decision
 changed_kept e s v =
     let here : sound s ≡ true = passed_sound e s v in
@@ -104,8 +104,8 @@ counted_kept s e = e
 
 judged_kept : (v : Verdict) (e : Event) (s : Chain) → verdict_of e s ≡ v → sound s ≡ true → sound (judged v e s).chain ≡ true
 unfolding judged accepted refused changed
-judged_kept (Refused why) e s is here = here
-judged_kept Accepted e s is here = counted_kept (changed e s) (changed_kept e s is)
+judged_kept (Err why) e s is here = here
+judged_kept (Ok tt) e s is here = counted_kept (changed e s) (changed_kept e s is)
 
 -- every event keeps a sound chain sound
 pub sound_kept : (e : Event) (s : Chain) → sound s ≡ true → sound (event_of e s).chain ≡ true

@@ -1,11 +1,11 @@
 -- The event number: what an event does to it.
 -- Assumes nothing.
+use Rattle.std.specs.Prelude.{Ok, Err}
 use mathlib.Core.Path.{◌≡◌, refl, ap}
 use Prim.Native.Nat.{ℕ, ◌+◌, ◌%◌}
 use Rattle.bits.proofs.Below.{either}
 use Rattle.refusal.proofs.Numbers.{not_zero}
-use Rattle.refusal.specs.declared.Verdict.{Verdict}
-use Rattle.refusal.specs.declared.Verdict.TheVariants.{Accepted, Refused}
+use Rattle.refusal.specs.Numbers.{Verdict}
 use Rattle.refusal.specs.Answers.{handed}
 use Rattle.event.specs.declared.Event.{Event}
 use Rattle.decide.specs.declared.Change.{Change}
@@ -26,8 +26,8 @@ applied_number c s =
 
 judged_counts : (v : Verdict) (e : Event) (s : Chain) → (handed (judged v e s).answer).number ≡ 0 → (judged v e s).chain.event ≡ (s.event + 1) % 65536
 unfolding judged accepted refused counted chain_fields
-judged_counts (Refused why) e s zero = absurd (not_zero why zero)
-judged_counts Accepted e s zero = ap (λ (n : ℕ). (n + 1) % 65536) (applied_number (decision e s) s)
+judged_counts (Err why) e s zero = absurd (not_zero why zero)
+judged_counts (Ok tt) e s zero = ap (λ (n : ℕ). (n + 1) % 65536) (applied_number (decision e s) s)
 
 -- an accepted event, one that hands back the number 0, adds one, modulo 65,536
 pub number_counts : (e : Event) (s : Chain) → (handed (event_of e s).answer).number ≡ 0 → (event_of e s).chain.event ≡ (s.event + 1) % 65536

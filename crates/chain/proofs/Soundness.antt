@@ -1,5 +1,6 @@
 -- What a sound chain's record says of each of its parts, and of what an event sees of it.
 -- Assumes nothing.
+use Rattle.std.specs.Prelude.{Some}
 use mathlib.Core.Bool.{Bool, true, ◌&&◌}
 use mathlib.Core.Path.{◌≡◌, refl, ap, sym, ◌∙◌}
 use Prim.Native.Nat.{ℕ, ◌≤◌, ◌<◌}
@@ -10,7 +11,6 @@ use Rattle.chip.specs.Sound.{chip_sound}
 use Rattle.response.proofs.Soundness.{SoundReply, reply_parts}
 use Rattle.response.specs.Sound.{response_sound}
 use Rattle.response.specs.declared.Reply.{Reply}
-use Rattle.response.specs.declared.Response.TheVariants.{UnderWay}
 use Rattle.decide.proofs.Soundness as seen
 use Rattle.decide.specs.Sound.{seen_sound}
 use Rattle.decide.specs.declared.Look.TheVariants.{Answering}
@@ -55,10 +55,10 @@ seen_sound_lem s at ei e =
     simp (either (λ (b : Bool). b ≡ true) (ltb at s.count) (chip_sound (chip_at s at)) true (λ h. chip_sound_lem s at e (ltb-true _ _ h)) (λ h. refl), (parts s e).response)
 
 -- the response under way
-pub under_way_parts : (s : Chain) (r : Reply) → sound s ≡ true → s.response ≡ UnderWay r → SoundReply s.count r
+pub under_way_parts : (s : Chain) (r : Reply) → sound s ≡ true → s.response ≡ Some r → SoundReply s.count r
 under_way_parts s r e is = reply_parts s.count s.iack r (ap (response_sound s.count s.iack) (sym is) ∙ (parts s e).response)
 
 -- and the response that a first pulse selects
-pub selected-sound : (s : Chain) (r : Reply) → sound s ≡ true → selected s ≡ UnderWay r → SoundReply s.count r
+pub selected-sound : (s : Chain) (r : Reply) → sound s ≡ true → selected s ≡ Some r → SoundReply s.count r
 unfolding selected seen_at
 selected-sound s r e is = (seen.selected-sound (seen_in Answering s) r (seen_sound_lem s _ _ e) is).0

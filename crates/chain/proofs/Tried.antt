@@ -1,5 +1,6 @@
 -- The definitions of a chain tried: its start, and where no event list from a start leads: refused starts, records that are not sound, absent chips.
 -- Assumes nothing.
+use Rattle.std.specs.Prelude.{Some, None}
 use mathlib.Core.Bool.{Bool, true, false}
 use mathlib.Core.Path.{◌≡◌, refl}
 use Prim.Native.Nat.{ℕ}
@@ -13,7 +14,6 @@ use Rattle.chain.specs.Start.{started, start_of}
 use Rattle.chain.specs.declared.Chain.{Chain}
 use Rattle.event.specs.declared.Event.{Event}
 use Rattle.event.specs.declared.Event.TheVariants.{Command, Data, Line, Fall}
-use Rattle.response.specs.declared.Response.TheVariants.{Idle, UnderWay}
 use Rattle.chain.proofs.Rules.{rules}
 
 -- starts: 0 and 9 chips are refused by 1, with the chain of count 0; 1 and 8 are sound
@@ -31,7 +31,7 @@ at_the_start :
     × (s.count ≡ 3)
     × (s.enable ≡ true)
     × (s.iack ≡ true)
-    × (s.response ≡ Idle)
+    × (s.response ≡ None)
     × (s.event ≡ 0)
 unfolding rules
 at_the_start = (refl, refl, refl, refl, refl, refl, refl, refl, refl)
@@ -55,7 +55,7 @@ pointers = (refl, refl)
 
 -- two chips with a response of chip 1 that has delivered so many of its two bytes
 abbrev pair : Bool → ℕ → Chain
-pair iack delivered = with_own true iack (UnderWay (record { chip = 1; channel = 7; level = 0; length = 2; delivered = delivered })) (started 2 0)
+pair iack delivered = with_own true iack (Some (record { chip = 1; channel = 7; level = 0; length = 2; delivered = delivered })) (started 2 0)
 
 -- at least 1 byte, at most the length with IACK low, fewer with IACK high
 deliveries :
@@ -71,15 +71,15 @@ number_of e s = (handed (event_of e s).answer).number
 
 -- where several refusals apply, the first of the table is given: 2 before 5 and 7, 5 before 7, 3 before 4
 orders :
-    (number_of (Command 2 0x01) (with_own true false Idle (started 2 0)) ≡ 2)
-    × (number_of (Command 1 0x01) (with_own true false Idle (started 2 0)) ≡ 5)
+    (number_of (Command 2 0x01) (with_own true false None (started 2 0)) ≡ 2)
+    × (number_of (Command 1 0x01) (with_own true false None (started 2 0)) ≡ 5)
     × (number_of (Line 1 8 2) (started 2 0) ≡ 3)
 unfolding rules
 orders = (refl, refl, refl)
 
 -- a line moves during a pulse too, so its bad level is 4; a data write without destination is 8
 others :
-    (number_of (Line 1 7 2) (with_own true false Idle (started 2 0)) ≡ 4)
+    (number_of (Line 1 7 2) (with_own true false None (started 2 0)) ≡ 4)
     × (number_of (Data 1 0x00) (started 2 0) ≡ 8)
 unfolding rules
 others = (refl, refl)

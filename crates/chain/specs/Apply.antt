@@ -2,7 +2,7 @@
 use Rattle.std.specs.Prelude.{cond}
 use Rattle.event.specs.Counting.{next_number}
 use Rattle.event.specs.declared.Event.{Event}
-use Rattle.refusal.specs.declared.Answer.{Answer}
+use Rattle.refusal.specs.Numbers.{Answer}
 use Rattle.decide.specs.Decided.{decided}
 use Rattle.decide.specs.declared.Change.{Change}
 use Rattle.chain.specs.Fields.{with_chip, with_own, with_event}

@@ -1,8 +1,8 @@
 -- The eight events (the rules paper, "The eight events" and "Numbers handed back"): what each hands back.
-use Rattle.refusal.specs.declared.Answer.{Answer}
+use Rattle.std.specs.Prelude.{Ok}
+use Rattle.refusal.specs.Numbers.{Answer}
 use Rattle.refusal.specs.declared.Refusal.{Refusal}
-use Rattle.refusal.specs.declared.Verdict.{Verdict}
-use Rattle.refusal.specs.declared.Verdict.TheVariants.{Accepted}
+use Rattle.refusal.specs.Numbers.{Verdict}
 use Rattle.event.specs.declared.Event.{Event}
 use Rattle.decide.specs.declared.Change.{Change}
 use Rattle.chain.specs.Apply.{applied, decision, counted}
@@ -16,11 +16,11 @@ accepted c s = record { answer = c.answer; chain = counted (applied c s) }
 
 -- refused events hand back the chain as given
 unfoldable pub refused : Refusal → Chain → Outcome
-refused why s = record { answer = Answer.Refused why; chain = s }
+refused why s = record { answer = Err why; chain = s }
 
 unfoldable pub judged : Verdict → Event → Chain → Outcome
-judged (Verdict.Refused why) e s = refused why s
-judged Accepted e s = accepted (decision e s) s
+judged (Err why) e s = refused why s
+judged (Ok tt) e s = accepted (decision e s) s
 
 unfoldable pub event_of : Event → Chain → Outcome
 event_of e s = judged (verdict_of e s) e s

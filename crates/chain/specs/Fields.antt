@@ -1,10 +1,10 @@
 -- A chain with its own fields, its event number or one of its chips replaced. antt has no record update, so the whole record is spelt out here, and besides in Start alone.
+use Rattle.std.specs.Prelude.{None}
 use Rattle.std.specs.Prelude.{Bool, false, List, ℕ, get_or, set, replicate}
 use Rattle.chip.specs.Fields.{zero_chip}
 use Rattle.chip.specs.declared.Chip.{Chip}
 use Rattle.chain.specs.declared.Chain.{Chain}
-use Rattle.response.specs.declared.Response.{Response}
-use Rattle.response.specs.declared.Response.TheVariants.{Idle}
+use Rattle.response.specs.Held.{Response}
 
 unfoldable pub with_chips : List Chip → Chain → Chain
 with_chips new s =
@@ -21,7 +21,7 @@ with_event new s =
 
 -- the chain of a refused start: count 0, all zero, without destination or response
 unfoldable pub zero_chain : Chain
-zero_chain = record { count = 0; chips = replicate 8 zero_chip; enable = false; iack = false; response = Idle; event = 0 }
+zero_chain = record { count = 0; chips = replicate 8 zero_chip; enable = false; iack = false; response = None; event = 0 }
 
 -- chip i of the chain; past the eight records, a chip that is all zero
 abbrev pub chip_at : Chain → ℕ → Chip

@@ -3,7 +3,7 @@ use Rattle.std.specs.Prelude.{Bool, not, ◌∷◌}
 use Rattle.refusal.specs.Numbers.{first_of_list}
 use Rattle.refusal.specs.declared.Refusal.{Refusal}
 use Rattle.refusal.specs.declared.Refusal.TheVariants.{NotSound}
-use Rattle.refusal.specs.declared.Verdict.{Verdict}
+use Rattle.refusal.specs.Numbers.{Verdict}
 use Rattle.event.specs.declared.Event.{Event}
 use Rattle.decide.specs.Refusals.{checks}
 use Rattle.chain.specs.Seen.{seen_by}

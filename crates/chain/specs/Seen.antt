@@ -1,7 +1,7 @@
 -- What an event looks at in a chain: the chain's own fields, and the chip that it names, that responds or that answers.
 use Rattle.std.specs.Prelude.{Bool, false, ℕ}
 use Rattle.event.specs.declared.Event.{Event}
-use Rattle.response.specs.declared.Response.{Response}
+use Rattle.response.specs.Held.{Response}
 use Rattle.decide.specs.Look.{look_of}
 use Rattle.decide.specs.Pulse.{selected_by}
 use Rattle.decide.specs.declared.Look.{Look}

@@ -1,5 +1,6 @@
 -- Whatever a chip does, its record stays sound.
 -- Assumes nothing.
+use Rattle.std.specs.Prelude.{Ok}
 use mathlib.Core.Bool.{Bool, true, false, cond, ◌&&◌}
 use mathlib.Core.List.{List}
 use mathlib.Core.Logic.{⊎_elim}
@@ -25,7 +26,6 @@ use Rattle.figure4.specs.declared.Command.{Command}
 use Rattle.figure4.specs.declared.Command.TheVariants.{Reset, ClearIrrAndImr, ClearIrrAndImrBit, ClearImr, ClearImrBit, SetImr, SetImrBit, ClearIrr, ClearIrrBit, SetIrr, SetIrrBit, ClearHighestIsr, ClearIsr, ClearIsrBit, LoadMode, LoadRead, LoadReadAndArm, LoadReadAndDisarm, PreselectImr, PreselectAcr, PreselectLevel}
 use Rattle.chip.specs.declared.Destination.{Destination}
 use Rattle.chip.specs.declared.Destination.TheVariants.{Nowhere, Imr, Acr, Level}
-use Rattle.figure4.specs.declared.Meaning.TheVariants.{Row}
 use Rattle.figure4.proofs.Figure4.{row_fits}
 use Rattle.chip.proofs.Rules.{chip_fields}
 use Rattle.chip.proofs.Soundness.{codes_sound_lem, pointer_sound, destination_sound_lem, level_le, place_lt}
@@ -45,7 +45,7 @@ elsewhere : (c : Chip) (destination : Destination) → destination_sound destina
 elsewhere c destination d e = simp (codes_sound_lem c e, pointer_sound c e, d)
 
 -- a command
-pub commanded_kept : (row : Command) (code : ℕ) (c : Chip) → row_fits row ≡ true → chip_sound c ≡ true → chip_sound (commanded (Row row) code c) ≡ true
+pub commanded_kept : (row : Command) (code : ℕ) (c : Chip) → row_fits row ≡ true → chip_sound c ≡ true → chip_sound (commanded (Ok row) code c) ≡ true
 unfolding chip_sound chip_fields commanded obey reset
 commanded_kept Reset code c f e = simp (codes_sound_lem c e)
 commanded_kept ClearIrrAndImr code c f e = elsewhere c Nowhere refl e

@@ -1,5 +1,6 @@
 -- The pointer is the channel answered last: only an answer and a reset move it.
 -- Assumes nothing.
+use Rattle.std.specs.Prelude.{Ok, Err}
 use mathlib.Core.Bool.{Bool, true, false, cond, true≢false}
 use mathlib.Core.Path.{◌≡◌, refl}
 use Prim.Native.Nat.{ℕ}
@@ -15,8 +16,7 @@ use Rattle.figure4.specs.declared.Command.{Command}
 use Rattle.figure4.specs.declared.Command.TheVariants.{Reset, ClearIrrAndImr, ClearIrrAndImrBit, ClearImr, ClearImrBit, SetImr, SetImrBit, ClearIrr, ClearIrrBit, SetIrr, SetIrrBit, ClearHighestIsr, ClearIsr, ClearIsrBit, LoadMode, LoadRead, LoadReadAndArm, LoadReadAndDisarm, PreselectImr, PreselectAcr, PreselectLevel}
 use Rattle.chip.specs.declared.Destination.{Destination}
 use Rattle.chip.specs.declared.Destination.TheVariants.{Nowhere, Imr, Acr, Level}
-use Rattle.figure4.specs.declared.Meaning.{Meaning}
-use Rattle.figure4.specs.declared.Meaning.TheVariants.{Row, Undefined}
+use Rattle.figure4.specs.Figure4.{Meaning}
 use Rattle.figure4.proofs.Figure4.{is_reset_row, no_reset}
 use Rattle.chip.proofs.Rules.{chip_fields}
 
@@ -26,7 +26,7 @@ unfolding chip_fields answered
 answered_pointer channel c = refl
 
 -- a command other than reset leaves it
-row_pointer : (row : Command) (code : ℕ) (c : Chip) → is_reset_row row ≡ false → (commanded (Row row) code c).pointer ≡ c.pointer
+row_pointer : (row : Command) (code : ℕ) (c : Chip) → is_reset_row row ≡ false → (commanded (Ok row) code c).pointer ≡ c.pointer
 unfolding chip_fields commanded obey
 row_pointer Reset code c e = absurd (true≢false e)
 row_pointer ClearIrrAndImr code c e = refl
@@ -52,8 +52,8 @@ row_pointer (PreselectLevel count level) code c e = refl
 
 meaning_pointer : (meaning : Meaning) (code : ℕ) (c : Chip) → figure4 code ≡ meaning → is_reset code ≡ false → (commanded meaning code c).pointer ≡ c.pointer
 unfolding commanded
-meaning_pointer (Row row) code c is other = row_pointer row code c (no_reset code row is other)
-meaning_pointer (Undefined kind) code c is other = refl
+meaning_pointer (Ok row) code c is other = row_pointer row code c (no_reset code row is other)
+meaning_pointer (Err kind) code c is other = refl
 
 pub commanded_pointer : (code : ℕ) (c : Chip) → is_reset code ≡ false → (commanded (figure4 code) code c).pointer ≡ c.pointer
 commanded_pointer code c other = meaning_pointer (figure4 code) code c refl other

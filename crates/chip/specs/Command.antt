@@ -1,4 +1,5 @@
 -- What a chip does on a command (the rules paper, event 1): each row of Figure 4.
+use Rattle.std.specs.Prelude.{Ok, Err}
 use Rattle.std.specs.Prelude.{ℕ, ◌+◌, ◌*◌, ◌/◌, ◌%◌, set}
 use Rattle.bits.specs.Byte.{with_bit, without_bit}
 use Rattle.search.specs.Clear.{clear_highest}
@@ -8,8 +9,7 @@ use Rattle.chip.specs.declared.Chip.{Chip}
 use Rattle.figure4.specs.declared.Command.{Command}
 use Rattle.figure4.specs.declared.Command.TheVariants.{Reset, ClearIrrAndImr, ClearIrrAndImrBit, ClearImr, ClearImrBit, SetImr, SetImrBit, ClearIrr, ClearIrrBit, SetIrr, SetIrrBit, ClearHighestIsr, ClearIsr, ClearIsrBit, LoadMode, LoadRead, LoadReadAndArm, LoadReadAndDisarm, PreselectImr, PreselectAcr, PreselectLevel}
 use Rattle.chip.specs.declared.Destination.TheVariants.{Nowhere, Imr, Acr, Level}
-use Rattle.figure4.specs.declared.Meaning.{Meaning}
-use Rattle.figure4.specs.declared.Meaning.TheVariants.{Row, Undefined}
+use Rattle.figure4.specs.Figure4.{Meaning}
 
 unfoldable pub obey : Command → Chip → Chip
 obey Reset c = reset c
@@ -36,5 +36,5 @@ obey (PreselectLevel count level) c = with_counts (set c.counts level count) (wi
 
 -- a command write: it ends the earlier destination (D), the code becomes the last command, and its row is carried out
 unfoldable pub commanded : Meaning → ℕ → Chip → Chip
-commanded (Row row) code c = obey row (with_command code (with_destination Nowhere c))
-commanded (Undefined kind) code c = c
+commanded (Ok row) code c = obey row (with_command code (with_destination Nowhere c))
+commanded (Err kind) code c = c

@@ -1,9 +1,9 @@
 -- What a chip's registers say (the rules paper, "Bits" and "Views and runs"): candidate, status byte, GINT, waiting number.
+use Rattle.std.specs.Prelude.{Option}
 use Rattle.std.specs.Prelude.{Bool, not, cond, ◌&&◌, ℕ, ◌+◌, ◌*◌}
 use Rattle.bits.specs.Below.{digit}
 use Rattle.bits.specs.Byte.{bit, waiting}
 use Rattle.search.specs.Candidate.{candidate, exists, channel_of}
-use Rattle.search.specs.declared.Candidate.{Candidate}
 use Rattle.chip.specs.declared.Chip.{Chip}
 
 -- M7, M2 and M0: armed, polled, rotating priority
@@ -17,7 +17,7 @@ abbrev pub is_rotating : Chip → Bool
 is_rotating c = bit c.mode 0
 
 -- the candidate of the chip: the status byte, GINT and the acknowledge all take this one
-abbrev pub candidate_of : Chip → Candidate
+abbrev pub candidate_of : Chip → Option ℕ
 candidate_of c = candidate c.irr c.imr c.isr c.mode c.pointer
 
 -- the status byte of a chip whose EI is at a level: S2 to S0 the candidate's channel, S3 M7, S4 M2, S5 M0, S6 EI, S7 whether a candidate exists

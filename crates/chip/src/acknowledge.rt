@@ -41,11 +41,10 @@ impl Chip {
     pub fn response_byte(self, level: u8, place: u8) -> u8
         ensures { result ≡ response_byte self level place }
     {
-        let at = memory_place(level, place);
-        if at >= 32 {
-            return 0;
-        }
-        self.memory[at]
+        self.memory
+            .get(memory_place(level, place))
+            .copied()
+            .unwrap_or(0)
     }
 
     // The response of a channel is over: its ISR bit clears if its ACR bit is then set.

@@ -4,34 +4,32 @@ ghost use Rattle.chip.specs.Command.{obey, commanded};
 ghost use Rattle.chip.specs.Fields.{with_command};
 ghost use Rattle.figure4.specs.Figure4.{figure4};
 ghost use Rattle.figure4.specs.declared.Command.TheVariants.{PreselectLevel};
-ghost use Rattle.figure4.specs.declared.Meaning.TheVariants.{Row};
 
 use crate::{Chip, Destination};
-use figure4::{Command, Meaning};
+use figure4::Command;
 
 impl Chip {
     // A command write: what its row says; an undefined one changes nothing.
     pub fn commanded(self, code: u8) -> Chip
         ensures { result ≡ commanded (figure4 code) code self }
     {
-        let meaning = Meaning::of(code);
-        match meaning {
-            Meaning::Row(row) => self.command(row, code),
-            Meaning::Undefined(_) => self,
+        match Command::try_from(code) {
+            Ok(row) => self.command(row, code),
+            Err(_) => self,
         }
     }
 
     // A command write, with the code's row: it ends the earlier destination, and the row is carried out.
     fn command(self, row: Command, code: u8) -> Chip
-        requires { figure4 code ≡ Row row }
-        ensures { result ≡ commanded (Row row) code self }
+        requires { figure4 code ≡ Ok row }
+        ensures { result ≡ commanded (Ok row) code self }
     {
         self.with_destination(Destination::Nowhere).obey(row, code)
     }
 
     // The code becomes the last command, and its row is carried out.
     fn obey(mut self, row: Command, code: u8) -> Chip
-        requires { figure4 code ≡ Row row }
+        requires { figure4 code ≡ Ok row }
         ensures { result ≡ obey row (with_command code self) }
     {
         self.command = code;

@@ -29,12 +29,7 @@ impl Destination {
     pub(crate) fn is_nowhere(self) -> bool
         ensures { result ≡ has_no_destination self }
     {
-        match self {
-            Destination::Nowhere => true,
-            Destination::Imr => false,
-            Destination::Acr => false,
-            Destination::Level(_, _) => false,
-        }
+        matches!(self, Destination::Nowhere)
     }
 }
 
@@ -45,36 +40,30 @@ impl Chip {
         requires level_bound { level < 8 }
         ensures { result ≡ byte_count self.counts level }
     {
-        let n = level as usize;
-        self.counts[n] + 1
+        self.counts[level as usize] + 1
     }
 
     // Whether data writes have nowhere to go.
     pub fn has_no_destination(self) -> bool
         ensures { result ≡ has_no_destination self.destination }
     {
-        let destination = self.destination;
-        destination.is_nowhere()
+        self.destination.is_nowhere()
     }
 
     // The byte count code of a level; 0 where there is no such level.
     fn code_of(self, level: u8) -> u8
         ensures { result ≡ get_or self.counts level 0 }
     {
-        let n = level as usize;
-        if n < 8 { self.counts[n] } else { 0 }
+        self.counts.get(level as usize).copied().unwrap_or(0)
     }
 
     // Whether the destination is a level whose place is at or past its count.
     pub fn is_past_its_count(self) -> bool
         ensures { result ≡ is_past_its_count self.counts self.destination }
     {
-        let destination = self.destination;
-        match destination {
-            Destination::Nowhere => false,
-            Destination::Imr => false,
-            Destination::Acr => false,
+        match self.destination {
             Destination::Level(level, place) => place > self.code_of(level),
+            Destination::Nowhere | Destination::Imr | Destination::Acr => false,
         }
     }
 
@@ -83,19 +72,13 @@ impl Chip {
         requires { chip_sound self ≡ true }
         ensures { result ≡ data_written self.destination byte self }
     {
-        let destination = self.destination;
-        match destination {
-            Destination::Nowhere => self,
-            Destination::Imr => {
-                self.imr = byte;
-                self
-            }
-            Destination::Acr => {
-                self.acr = byte;
-                self
-            }
-            Destination::Level(level, place) => self.at_level(level, place, byte),
+        match self.destination {
+            Destination::Nowhere => (),
+            Destination::Imr => self.imr = byte,
+            Destination::Acr => self.acr = byte,
+            Destination::Level(level, place) => return self.at_level(level, place, byte),
         }
+        self
     }
 
     // The byte at a place of a level, and the place moved on.
@@ -103,10 +86,9 @@ impl Chip {
         requires { place < 255 }
         ensures { result ≡ data_written (Level level place) byte self }
     {
-        let memory = self.memory;
-        let after = stored(memory, memory_place(level, place), byte);
-        self.memory = after;
-        self.with_destination(Destination::Level(level, place + 1))
+        self.memory = stored(self.memory, memory_place(level, place), byte);
+        self.destination = Destination::Level(level, place + 1);
+        self
     }
 
     // A data read, by M6 M5: 00 ISR, 01 IMR, 10 IRR, 11 ACR.

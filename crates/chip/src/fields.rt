@@ -1,4 +1,4 @@
-// A chip with its destination replaced, and the chip that is all zero: the two places that write the whole record out.
+// A chip with its destination replaced, and the chip that is all zero.
 ghost use Rattle.std.specs.Prelude.{◌≡◌};
 ghost use Rattle.chip.specs.Fields.{with_destination, zero_chip};
 
@@ -24,24 +24,11 @@ impl Chip {
         }
     }
 
-    // The chip with another destination. (The record is written anew, in this one place.)
-    pub(crate) fn with_destination(self, destination: Destination) -> Chip
+    // The chip with another destination.
+    pub(crate) fn with_destination(mut self, destination: Destination) -> Chip
         ensures { result ≡ with_destination destination self }
     {
-        let memory = self.memory;
-        let counts = self.counts;
-        Chip {
-            irr: self.irr,
-            isr: self.isr,
-            imr: self.imr,
-            acr: self.acr,
-            mode: self.mode,
-            command: self.command,
-            memory: memory,
-            counts: counts,
-            lines: self.lines,
-            pointer: self.pointer,
-            destination: destination,
-        }
+        self.destination = destination;
+        self
     }
 }

@@ -10,9 +10,7 @@ impl Destination {
         ensures { result ≡ destination_sound self }
     {
         match self {
-            Destination::Nowhere => true,
-            Destination::Imr => true,
-            Destination::Acr => true,
+            Destination::Nowhere | Destination::Imr | Destination::Acr => true,
             Destination::Level(level, place) => (level <= 7) & (place <= 4),
         }
     }
@@ -23,19 +21,13 @@ impl Chip {
     pub fn is_sound(self) -> bool
         ensures { result ≡ chip_sound self }
     {
-        let destination = self.destination;
-        self.has_sound_codes() & (self.pointer <= 7) & destination.is_sound()
+        self.has_sound_codes() & (self.pointer <= 7) & self.destination.is_sound()
     }
 
     // Each of the eight codes is at most 3.
     fn has_sound_codes(self) -> bool
         ensures { result ≡ codes_sound self.counts }
     {
-        for level in 0usize..8 {
-            if self.counts[level] > 3 {
-                return false;
-            }
-        }
-        true
+        self.counts.iter().all(|code| *code <= 3)
     }
 }

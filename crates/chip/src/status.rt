@@ -3,7 +3,7 @@ ghost use Rattle.std.specs.Prelude.{◌≡◌};
 ghost use Rattle.chip.specs.Status.{is_armed, is_polled, is_rotating, candidate_of, status_byte, gint_active, gint_pin, waiting_number};
 
 use crate::Chip;
-use search::Candidate;
+use search::{channel_of, exists};
 
 impl Chip {
     // M7.
@@ -28,7 +28,7 @@ impl Chip {
     }
 
     // The candidate: the status byte, GINT and the acknowledge all take this one.
-    pub fn candidate(self) -> Candidate
+    pub fn candidate(self) -> Option<u8>
         ensures { result ≡ candidate_of self }
     {
         search::candidate_of(self.irr, self.imr, self.isr, self.mode, self.pointer)
@@ -39,20 +39,19 @@ impl Chip {
         ensures { result ≡ status_byte self ei }
     {
         let candidate = self.candidate();
-        let channel = candidate.channel();
-        channel
+        channel_of(candidate)
             + 8 * bits::digit_of(self.is_armed())
             + 16 * bits::digit_of(self.is_polled())
             + 32 * bits::digit_of(self.is_rotating())
             + 64 * bits::digit_of(ei)
-            + 128 * bits::digit_of(candidate.exists())
+            + 128 * bits::digit_of(exists(candidate))
     }
 
     // GINT is active if M2 is clear and a candidate exists.
     pub fn gint_active(self) -> bool
         ensures { result ≡ gint_active self }
     {
-        !self.is_polled() & self.candidate().exists()
+        !self.is_polled() & exists(self.candidate())
     }
 
     // Its pin, by M3: 1 or 0 where GINT is active high; 0 or 2, released, where it is active low.

@@ -1,11 +1,11 @@
 -- What is decided keeps what is seen sound: the chip that it puts in a chip's place, and the response with the level of IACK.
 -- Assumes nothing.
+use Rattle.std.specs.Prelude.{Some, None, Ok, Err}
 use mathlib.Core.Bool.{Bool, true, false}
 use mathlib.Core.Path.{◌≡◌, refl, ap, sym, subst, ◌∙◌}
 use Prim.Native.Nat.{ℕ, ◌≤◌, ◌<◌}
 use lib.Dec.{eqb}
 use Rattle.refusal.proofs.Numbers.{not_both}
-use Rattle.refusal.specs.declared.Verdict.TheVariants.{Accepted}
 use Rattle.event.specs.declared.Event.{Event}
 use Rattle.event.specs.declared.Event.TheVariants.{Command, Data, Status, Read, Line, Enable, Fall, Rise}
 use Rattle.figure4.proofs.Figure4.{row_fits_lem}
@@ -14,14 +14,12 @@ use Rattle.chip.specs.Command.{commanded}
 use Rattle.figure4.specs.Figure4.{figure4}
 use Rattle.chip.specs.Sound.{chip_sound}
 use Rattle.chip.specs.declared.Chip.{Chip}
-use Rattle.figure4.specs.declared.Meaning.{Meaning}
-use Rattle.figure4.specs.declared.Meaning.TheVariants.{Row, Undefined}
+use Rattle.figure4.specs.Figure4.{Meaning}
 use Rattle.response.proofs.Soundness.{reply_whole, reply_delivered, one_more_lem, still_left}
 use Rattle.response.specs.Held.{ends_response}
 use Rattle.response.specs.Sound.{delivered_sound, response_sound}
 use Rattle.response.specs.declared.Reply.{Reply}
-use Rattle.response.specs.declared.Response.{Response}
-use Rattle.response.specs.declared.Response.TheVariants.{Idle, UnderWay}
+use Rattle.response.specs.Held.{Response}
 use Rattle.decide.specs.Decided.{ending, decided}
 use Rattle.decide.specs.Pulse.{selected_by, driving, first_pulse, fallen, risen_after, risen}
 use Rattle.decide.specs.Change.{nothing, replacing}
@@ -40,8 +38,8 @@ pub record KeepsSound (v : Seen) (c : Change) : Type 0 where
 
 commanded_chip : (meaning : Meaning) (code : ℕ) (c : Chip) → figure4 code ≡ meaning → chip_sound c ≡ true → chip_sound (commanded meaning code c) ≡ true
 unfolding commanded
-commanded_chip (Row row) code c is e = commanded_kept row code c (row_fits_lem code row is) e
-commanded_chip (Undefined kind) code c is e = e
+commanded_chip (Ok row) code c is e = commanded_kept row code c (row_fits_lem code row is) e
+commanded_chip (Err kind) code c is e = e
 
 -- a first pulse: IACK is low with the first byte of a response, or none
 next : (r : Reply) → r.delivered ≡ 0 → 1 ≤ r.length → r.delivered < r.length
@@ -49,8 +47,8 @@ next r none one = rw none one
 
 first_kept : (found : Response) (v : Seen) → selected_by v ≡ found → seen_sound v ≡ true → KeepsSound v (first_pulse found v)
 unfolding changes driving first_pulse
-first_kept Idle v is e = record { chip = λ h. not_both h; response = λ h. refl }
-first_kept (UnderWay r) v is e =
+first_kept None v is e = record { chip = λ h. not_both h; response = λ h. refl }
+first_kept (Some r) v is e =
     let p = selected-sound v r e is in
     record {
       chip = λ h. answered_kept r.channel v.chip p.0.channel (seen_chip v e (selected_is v r is).0);
@@ -59,12 +57,12 @@ first_kept (UnderWay r) v is e =
 
 fall_kept : (response : Response) (v : Seen) → v.response ≡ response → v.iack ≡ true → seen_sound v ≡ true → KeepsSound v (fallen response v)
 unfolding changes driving fallen
-fall_kept Idle v is high e = first_kept (selected_by v) v refl e
-fall_kept (UnderWay r) v is high e =
+fall_kept None v is high e = first_kept (selected_by v) v refl e
+fall_kept (Some r) v is high e =
     record { chip = λ h. not_both h; response = λ h. one_more_lem v.count r (under_way_parts v r e is) (next_left v r e high is) }
 
 -- the end of a pulse: after the last byte the response ends, otherwise a byte is left
-after_kept : (last : Bool) (r : Reply) (v : Seen) → eqb r.delivered r.length ≡ last → v.response ≡ UnderWay r → v.iack ≡ false → v.at < v.count
+after_kept : (last : Bool) (r : Reply) (v : Seen) → eqb r.delivered r.length ≡ last → v.response ≡ Some r → v.iack ≡ false → v.at < v.count
     → seen_sound v ≡ true
     → KeepsSound v (risen_after last r v)
 unfolding changes risen_after
@@ -77,11 +75,11 @@ after_kept false r v at is low h e =
           (still_left r at (ap (λ (iack : Bool). delivered_sound iack r) (sym low) ∙ reply_delivered v.count v.iack r (under_way v r e is)));
     }
 
-rise_kept : (response : Response) (v : Seen) → v.response ≡ response → v.iack ≡ false → ((r : Reply) → response ≡ UnderWay r → v.at ≡ r.chip) → seen_sound v ≡ true
+rise_kept : (response : Response) (v : Seen) → v.response ≡ response → v.iack ≡ false → ((r : Reply) → response ≡ Some r → v.at ≡ r.chip) → seen_sound v ≡ true
     → KeepsSound v (risen response v)
 unfolding changes risen
-rise_kept Idle v is low at e = record { chip = λ h. not_both h; response = λ h. refl }
-rise_kept (UnderWay r) v is low at e =
+rise_kept None v is low at e = record { chip = λ h. not_both h; response = λ h. refl }
+rise_kept (Some r) v is low at e =
     after_kept (eqb r.delivered r.length) r v refl is low (subst (λ (n : ℕ). n < v.count) (sym (at r refl)) (under_way_parts v r e is).chip) e
 
 -- a command keeps its chip sound, and a response that it ends is none
@@ -92,9 +90,9 @@ ending_kept false v c e = record { chip = λ h. e; response = λ h. not_both h }
 
 -- what is seen of the chip that responds
 abbrev pub AtResponding : Seen → Type 0
-AtResponding v = (r : Reply) → v.response ≡ UnderWay r → v.at ≡ r.chip
+AtResponding v = (r : Reply) → v.response ≡ Some r → v.at ≡ r.chip
 
-pub decided_kept : (e : Event) (v : Seen) → verdict_on e v ≡ Accepted → seen_sound v ≡ true → (e ≡ Rise → AtResponding v) → KeepsSound v (decided e v)
+pub decided_kept : (e : Event) (v : Seen) → verdict_on e v ≡ Ok tt → seen_sound v ≡ true → (e ≡ Rise → AtResponding v) → KeepsSound v (decided e v)
 unfolding changes decided
 decided_kept (Command i code) v ok here at =
     ending_kept (ends_response v.at code v.response) v _

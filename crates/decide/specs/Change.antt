@@ -1,18 +1,17 @@
 -- What an event does, put together: it may answer with a byte, replace a chip, set the chain's own fields. antt has no record update, so the whole record is spelt
 -- out in this file, and in no other.
+use Rattle.std.specs.Prelude.{None, Ok}
 use Rattle.std.specs.Prelude.{Bool, true, false, ℕ}
-use Rattle.refusal.specs.declared.Answer.{Answer}
-use Rattle.refusal.specs.declared.Answer.TheVariants.{Done}
+use Rattle.refusal.specs.Numbers.{Answer}
 use Rattle.chip.specs.Fields.{zero_chip}
 use Rattle.chip.specs.declared.Chip.{Chip}
-use Rattle.response.specs.declared.Response.{Response}
-use Rattle.response.specs.declared.Response.TheVariants.{Idle}
+use Rattle.response.specs.Held.{Response}
 use Rattle.decide.specs.declared.Change.{Change}
 
 -- nothing changes, and no byte is driven or read. (Where no chip is replaced it does not matter which one stands here, and so with the chain's fields.)
 unfoldable pub nothing : Change
 nothing =
-    record { answer = Done; replaces = false; at = 0; chip = zero_chip; sets = false; enable = false; iack = false; response = Idle }
+    record { answer = Ok None; replaces = false; at = 0; chip = zero_chip; sets = false; enable = false; iack = false; response = None }
 
 unfoldable pub answering : Answer → Change → Change
 answering new c =

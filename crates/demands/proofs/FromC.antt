@@ -1,5 +1,6 @@
 -- The calls from C, proved: a call's verdict decides its number and what it writes; a run's number tells which of its two parts decided.
 -- Assumes nothing.
+use Rattle.std.specs.Prelude.{Ok, Err}
 use mathlib.Core.Bool.{Bool, true, false, not, cond}
 use mathlib.Core.List.{List, [], ◌∷◌, ◌++◌}
 use mathlib.Core.Path.{◌≡◌, refl, ap, sym, subst, ◌∙◌}
@@ -13,8 +14,7 @@ use Rattle.bits.proofs.Below.{either}
 use Rattle.refusal.proofs.Numbers.{not_zero, not_both, passed_first, passed_rest, accepted_is}
 use Rattle.refusal.specs.Numbers.{verdict_number, is_accepted, first_of_list}
 use Rattle.refusal.specs.declared.Refusal.TheVariants.{NotSound, NoSuchChip, BrokenEvent, ShortResults}
-use Rattle.refusal.specs.declared.Verdict.{Verdict}
-use Rattle.refusal.specs.declared.Verdict.TheVariants.{Accepted, Refused}
+use Rattle.refusal.specs.Numbers.{Verdict}
 use Rattle.views.specs.Views.{table_of, picture_of}
 use Rattle.decide.specs.Refusals.{no_such_chip}
 use Rattle.chain.specs.Refusals.{not_sound}
@@ -50,18 +50,18 @@ use Rattle.run.proofs.Before as before_any_lem
 -- a call by its verdict
 refused_leaves : (v : Verdict) (old new : List ℕ) → ((called v old new).number ≡ 0 → ⊥) → (called v old new).buffer ≡ old
 unfolding called
-refused_leaves (Refused why) old new other = refl
-refused_leaves Accepted old new other = absurd (other refl)
+refused_leaves (Err why) old new other = refl
+refused_leaves (Ok tt) old new other = absurd (other refl)
 
 accepted_writes : (v : Verdict) (old new : List ℕ) → (called v old new).number ≡ 0 → (called v old new).buffer ≡ new
 unfolding called
-accepted_writes Accepted old new e = refl
-accepted_writes (Refused why) old new e = absurd (not_zero why e)
+accepted_writes (Ok tt) old new e = refl
+accepted_writes (Err why) old new e = absurd (not_zero why e)
 
-is_accepted_lem : (v : Verdict) (old new : List ℕ) → (called v old new).number ≡ 0 → v ≡ Accepted
+is_accepted_lem : (v : Verdict) (old new : List ℕ) → (called v old new).number ≡ 0 → v ≡ Ok tt
 unfolding called
-is_accepted_lem Accepted old new e = refl
-is_accepted_lem (Refused why) old new e = absurd (not_zero why e)
+is_accepted_lem (Ok tt) old new e = refl
+is_accepted_lem (Err why) old new e = absurd (not_zero why e)
 
 called_by : (v : Verdict) (old new : List ℕ) → (called v old new).number ≡ verdict_number v
 unfolding called
@@ -82,16 +82,16 @@ start_number count fill image = by (eqb (length image) 528) (count_sound count) 
 -- a view
 view_rest : (v : Verdict) (view new : List ℕ) (n : ℕ) → length new ≡ n → drop n (called v view (over view 0 new)).buffer ≡ drop n view
 unfolding called
-view_rest Accepted view new n is =
+view_rest (Ok tt) view new n is =
     drop_at new (drop (0 + length new) view) n is ∙ ap (λ (m : ℕ). drop m view) (zero-add (length new) ∙ is)
-view_rest (Refused why) view new n is = refl
+view_rest (Err why) view new n is = refl
 
 -- one that is accepted is of an image, of a sound chain, and of a chip in its count
 seen : (n : ℕ) (image : List ℕ) (chip : ℕ) (view : List ℕ) (s : Chain)
-    → first_of_list (not_an_image image ∷ not_sound s ∷ no_such_chip s.count chip ∷ short_buffer n view ∷ []) ≡ Accepted
+    → first_of_list (not_an_image image ∷ not_sound s ∷ no_such_chip s.count chip ∷ short_buffer n view ∷ []) ≡ Ok tt
     → (is_image image ≡ true) × ((sound s ≡ true) × (chip < s.count))
 seen n image chip view s is =
-    let rest : first_of_list (not_sound s ∷ no_such_chip s.count chip ∷ short_buffer n view ∷ []) ≡ Accepted =
+    let rest : first_of_list (not_sound s ∷ no_such_chip s.count chip ∷ short_buffer n view ∷ []) ≡ Ok tt =
     passed_rest (not (is_image image)) NotSound (not_sound s ∷ no_such_chip s.count chip ∷ short_buffer n view ∷ []) is in (
       not-false (is_image image) (passed_first (not (is_image image)) NotSound (not_sound s ∷ no_such_chip s.count chip ∷ short_buffer n view ∷ []) is),
       (
@@ -146,7 +146,7 @@ run_later : (s : Chain) (events : List ℕ) (limit : ℕ) (results : List ℕ) �
 unfolding before_any
 run_later s events limit results on =
     let is : sound s ≡ true = before_any_lem.before-sound s events results on in
-    let rest : first_of_list (broken_event (length events) ∷ short_results (length events) (length results) ∷ []) ≡ Accepted =
+    let rest : first_of_list (broken_event (length events) ∷ short_results (length events) (length results) ∷ []) ≡ Ok tt =
     passed_rest (not (sound s)) NotSound (broken_event (length events) ∷ short_results (length events) (length results) ∷ []) (accepted_is _ on) in
     let whole : (broken_event (length events)).0 ≡ false = passed_first (broken_event (length events)).0 BrokenEvent (short_results (length events) (length results) ∷ []) rest in
     let room : (short_results (length events) (length results)).0 ≡ false =

@@ -1,5 +1,6 @@
 -- What the events keep, proved: what a change leaves of a chain, once, and by the event only which chip it may replace.
 -- Assumes nothing.
+use Rattle.std.specs.Prelude.{Some, None, Ok, Err}
 use mathlib.Core.Bool.{Bool, true, false, ◌&&◌}
 use mathlib.Core.List.{List, [], ◌∷◌}
 use mathlib.Core.Logic.{⊎_elim}
@@ -17,18 +18,15 @@ use Rattle.bits.proofs.Stored.{stored}
 use Rattle.refusal.proofs.Numbers.{not_zero, not_both}
 use Rattle.refusal.specs.Answers.{verdict_in, handed}
 use Rattle.refusal.specs.Numbers.{refusal_number, verdict_number, is_accepted}
-use Rattle.refusal.specs.declared.Answer.{Answer}
-use Rattle.refusal.specs.declared.Answer.TheVariants.{Done, Byte}
-use Rattle.refusal.specs.declared.Verdict.{Verdict}
-use Rattle.refusal.specs.declared.Verdict.TheVariants.{Accepted, Refused}
+use Rattle.refusal.specs.Numbers.{Answer}
+use Rattle.refusal.specs.Numbers.{Verdict}
 use Rattle.event.specs.declared.Event.{Event}
 use Rattle.event.specs.declared.Event.TheVariants.{Command, Data, Status, Read, Line, Enable, Fall, Rise}
 use Rattle.chip.specs.Fields.{zero_chip}
 use Rattle.chip.specs.declared.Chip.{Chip}
 use Rattle.response.specs.Held.{is_idle, is_responding}
 use Rattle.response.specs.declared.Reply.{Reply}
-use Rattle.response.specs.declared.Response.{Response}
-use Rattle.response.specs.declared.Response.TheVariants.{Idle, UnderWay}
+use Rattle.response.specs.Held.{Response}
 use Rattle.decide.proofs.Answered.{decided_tells}
 use Rattle.decide.proofs.Passed.{passed_names}
 use Rattle.decide.proofs.Soundness.{selected_is}
@@ -74,10 +72,10 @@ applied_records c s = either (λ (t : Chain). length t.chips ≡ length s.chips)
     replaced = either (λ (t : Chain). length t.chips ≡ length s.chips) c.replaces _ s (λ put. length-set s.chips c.at c.chip) (λ none. refl)
 
 -- an event replaces no chip but the one that it may replace
-pub first_there : (s : Chain) (r : Reply) → s.response ≡ Idle → selected_by (seen_by Fall s) ≡ UnderWay r → replaces Fall s (seen_by Fall s).at ≡ true
+pub first_there : (s : Chain) (r : Reply) → s.response ≡ None → selected_by (seen_by Fall s) ≡ Some r → replaces Fall s (seen_by Fall s).at ≡ true
 unfolding selected
 first_there s r idle found =
-    let is : selected s ≡ UnderWay r = ap (λ response. selected_by (seen_in (unless_responding Answering response) s)) (sym idle) ∙ found in
+    let is : selected s ≡ Some r = ap (λ response. selected_by (seen_in (unless_responding Answering response) s)) (sym idle) ∙ found in
     ap₂ (λ (response found : Response). is_idle response && is_responding found (seen_by Fall s).at) idle is
     ∙ eq-eqb r.chip (seen_by Fall s).at (ap (λ (r : Reply). r.chip) (selected_is (seen_by Fall s) r found).1)
 
@@ -98,13 +96,13 @@ within e s put =
     subst (λ (k : ℕ). replaces e s k ≡ true) (sym there.0) there.1
 
 -- what an event leaves is the chain of before or, where it is accepted, the chain with its change applied
-pub left : (P : Chain → Type 0) (v : Verdict) (e : Event) (s : Chain) → P s → (v ≡ Accepted → P (counted (applied (decision e s) s))) → P (judged v e s).chain
+pub left : (P : Chain → Type 0) (v : Verdict) (e : Event) (s : Chain) → P s → (v ≡ Ok tt → P (counted (applied (decision e s) s))) → P (judged v e s).chain
 unfolding judged accepted refused
-left P (Refused why) e s before changed = before
-left P Accepted e s before changed = changed refl
+left P (Err why) e s before changed = before
+left P (Ok tt) e s before changed = changed refl
 
 -- so it leaves the other chips, and as many of them, and the count
-same : (v : Verdict) (e : Event) (s : Chain) (k : ℕ) → (v ≡ Accepted → replaces e s k ≡ false) → chip_at (judged v e s).chain k ≡ chip_at s k
+same : (v : Verdict) (e : Event) (s : Chain) (k : ℕ) → (v ≡ Ok tt → replaces e s k ≡ false) → chip_at (judged v e s).chain k ≡ chip_at s k
 unfolding chain_fields counted
 same v e s k other =
     left (λ t. chip_at t k ≡ chip_at s k) v e s refl
@@ -125,8 +123,8 @@ one_number : (i j k : ℕ) → eqb i j ≡ true → eqb i k ≡ true → j ≡ k
 one_number i j k ej ek = sym (eqb-true i j ej) ∙ eqb-true i k ek
 
 one_response : (response : Response) (j k : ℕ) → is_responding response j ≡ true → is_responding response k ≡ true → j ≡ k
-one_response Idle j k ej ek = not_both ej
-one_response (UnderWay r) j k ej ek = one_number r.chip j k ej ek
+one_response None j k ej ek = not_both ej
+one_response (Some r) j k ej ek = one_number r.chip j k ej ek
 
 one : (e : Event) (s : Chain) (j k : ℕ) → replaces e s j ≡ true → replaces e s k ≡ true → j ≡ k
 one (Command i code) s j k ej ek = one_number i j k ej ek
@@ -144,14 +142,14 @@ not-past : (i count k : ℕ) → i < count → count ≤ k → eqb i k ≡ false
 not-past i count k h l = ne_eqb i k (λ is. absurd (omega (arith, is)))
 
 selected-past : (found : Response) (s : Chain) (k : ℕ) → selected s ≡ found → sound s ≡ true → s.count ≤ k → is_responding found k ≡ false
-selected-past Idle s k is e l = refl
-selected-past (UnderWay r) s k is e l = not-past r.chip s.count k (selected-sound s r e is).chip l
+selected-past None s k is e l = refl
+selected-past (Some r) s k is e l = not-past r.chip s.count k (selected-sound s r e is).chip l
 
 response_past : (response : Response) (s : Chain) (k : ℕ) → s.response ≡ response → sound s ≡ true → s.count ≤ k → is_responding response k ≡ false
-response_past Idle s k is e l = refl
-response_past (UnderWay r) s k is e l = not-past r.chip s.count k (under_way_parts s r e is).chip l
+response_past None s k is e l = refl
+response_past (Some r) s k is e l = not-past r.chip s.count k (under_way_parts s r e is).chip l
 
-past : (e : Event) (s : Chain) (k : ℕ) → verdict_of e s ≡ Accepted → s.count ≤ k → replaces e s k ≡ false
+past : (e : Event) (s : Chain) (k : ℕ) → verdict_of e s ≡ Ok tt → s.count ≤ k → replaces e s k ≡ false
 unfolding seen_at
 past (Command i code) s k v l = not-past i s.count k (passed_names (Command i code) (seen_by (Command i code) s) refl (passed_tests (Command i code) s v)) l
 past (Data i byte) s k v l = not-past i s.count k (passed_names (Data i byte) (seen_by (Data i byte) s) refl (passed_tests (Data i byte) s v)) l
@@ -164,9 +162,9 @@ past Rise s k v l = response_past s.response s k refl (passed_sound Rise s v) l
 
 -- an accepted event's answer has the number 0
 pub answer_number : (a : Answer) → verdict_number (verdict_in a) ≡ (handed a).number
-answer_number Done = refl
-answer_number (Byte b) = refl
-answer_number (Answer.Refused why) = refl
+answer_number (Ok None) = refl
+answer_number (Ok (Some b)) = refl
+answer_number (Err why) = refl
 
 pub answers_zero : (e : Event) (s : Chain) → (handed (answer_of e s)).number ≡ 0
 unfolding decision
@@ -184,18 +182,18 @@ mod_step n a = omega arith
 
 zero_judged : (v : Verdict) (e : Event) (s : Chain) → eqb (handed (judged v e s).answer).number 0 ≡ is_accepted v
 unfolding judged accepted refused
-zero_judged (Refused why) e s = ne_eqb (refusal_number why) 0 (not_zero why)
-zero_judged Accepted e s = eq-eqb (handed (answer_of e s)).number 0 (answers_zero e s)
+zero_judged (Err why) e s = ne_eqb (refusal_number why) 0 (not_zero why)
+zero_judged (Ok tt) e s = eq-eqb (handed (answer_of e s)).number 0 (answers_zero e s)
 
 number_judged : (v : Verdict) (e : Event) (s : Chain) (a : ℕ) → ((judged v e s).chain.event + a) % 65536 ≡ (s.event + (digit (is_accepted v) + a)) % 65536
 unfolding chain_fields judged accepted refused counted
-number_judged (Refused why) e s a = no_step s.event a
-number_judged Accepted e s a = ap (λ (n : ℕ). ((n + 1) % 65536 + a) % 65536) (applied_number (decision e s) s) ∙ mod_step s.event a
+number_judged (Err why) e s a = no_step s.event a
+number_judged (Ok tt) e s a = ap (λ (n : ℕ). ((n + 1) % 65536 + a) % 65536) (applied_number (decision e s) s) ∙ mod_step s.event a
 
 number_lt : (v : Verdict) (e : Event) (s : Chain) → s.event < 65536 → (judged v e s).chain.event < 65536
 unfolding chain_fields judged accepted refused counted
-number_lt (Refused why) e s h = h
-number_lt Accepted e s h = mod-lt ((applied (decision e s) s).event + 1) (lit< tt)
+number_lt (Err why) e s h = h
+number_lt (Ok tt) e s h = mod-lt ((applied (decision e s) s).event + 1) (lit< tt)
 
 number : (s : Chain) (es : List Event) → s.event < 65536 → (after s es).event ≡ (s.event + accepted_in s es) % 65536
 unfolding after along event_of

@@ -1,5 +1,6 @@
 -- Each event of a run is performed on the chain that those before it leave, and its two bytes stay in the results.
 -- Assumes nothing.
+use Rattle.std.specs.Prelude.{Ok}
 use mathlib.Core.Bool.{Bool, true, false}
 use mathlib.Core.List.{List}
 use mathlib.Core.Path.{◌≡◌, refl, ap, sym, ◌∙◌, subst}
@@ -8,7 +9,6 @@ use native.Mathlib.Omega.{arith}
 use lib.ListN.{get_or, set, length, length-set}
 use lib.Seq.{get_or-set_same, get_or-set_other}
 use Rattle.refusal.specs.Numbers.{is_accepted}
-use Rattle.refusal.specs.declared.Verdict.TheVariants.{Accepted}
 use Rattle.refusal.specs.Answers.{verdict_in, Handed, handed}
 use Rattle.chain.specs.declared.Chain.{Chain}
 use Rattle.run.proofs.Before.{before_room, refused_before, none_before}
@@ -34,7 +34,7 @@ noted-byte n h results room =
     let same : length (set results (2 * n) h.drove) ≡ length results = length-set results (2 * n) h.drove in
     get_or-set_same (set results (2 * n) h.drove) (2 * n + 1) h.byte 0 (omega (arith, same, room))
 
-pub none_left : (bytes : List ℕ) (n : ℕ) (s : Chain) (results : List ℕ) → run_from 0 bytes n s results ≡ stopped Accepted n s results
+pub none_left : (bytes : List ℕ) (n : ℕ) (s : Chain) (results : List ℕ) → run_from 0 bytes n s results ≡ stopped (Ok tt) n s results
 unfolding run_from
 none_left bytes n s results = refl
 

@@ -1,6 +1,7 @@
 -- The five ways in which an event puts another chip in the place of the one that it sees: a command, a data write, a line, a first pulse that is answered, and
 -- the rise that ends a response. Whatever holds of each of them holds of every event that replaces a chip.
 -- Assumes nothing.
+use Rattle.std.specs.Prelude.{Some, None}
 use mathlib.Core.Bool.{Bool, true, false}
 use mathlib.Core.Path.{◌≡◌, refl}
 use Prim.Native.Nat.{ℕ}
@@ -16,8 +17,7 @@ use Rattle.chip.specs.Line.{line_set}
 use Rattle.chip.specs.declared.Chip.{Chip}
 use Rattle.response.specs.Held.{ends_response}
 use Rattle.response.specs.declared.Reply.{Reply}
-use Rattle.response.specs.declared.Response.{Response}
-use Rattle.response.specs.declared.Response.TheVariants.{Idle, UnderWay}
+use Rattle.response.specs.Held.{Response}
 use Rattle.decide.proofs.Rules.{changes}
 use Rattle.decide.specs.Change.{nothing, replacing}
 use Rattle.decide.specs.Decided.{ending, decided}
@@ -30,8 +30,8 @@ pub record Ways (by : Event → Seen) (P : Event → Chip → Type 0) : Type 0 w
   pub command : (i code : ℕ) → P (Command i code) (commanded (figure4 code) code (by (Command i code)).chip)
   pub data_write : (i byte : ℕ) → P (Data i byte) (data_written (by (Data i byte)).chip.destination byte (by (Data i byte)).chip)
   pub line : (i channel level : ℕ) → P (Line i channel level) (line_set channel (eqb level 1) (by (Line i channel level)).chip)
-  pub first_pulse_lem : (r : Reply) → (by Fall).response ≡ Idle → selected_by (by Fall) ≡ UnderWay r → P Fall (answered r.channel (by Fall).chip)
-  pub last_rise : (r : Reply) → (by Rise).response ≡ UnderWay r → P Rise (finished r.channel (by Rise).chip)
+  pub first_pulse_lem : (r : Reply) → (by Fall).response ≡ None → selected_by (by Fall) ≡ Some r → P Fall (answered r.channel (by Fall).chip)
+  pub last_rise : (r : Reply) → (by Rise).response ≡ Some r → P Rise (finished r.channel (by Rise).chip)
 
 -- a change that replaces a chip replaces the one that is seen, by one of which this holds
 abbrev Puts : Seen → (Chip → Type 0) → Change → Type 0
@@ -42,18 +42,18 @@ unfolding changes
 ending_puts true v P c holds = holds
 ending_puts false v P c holds = holds
 
-first_puts : (found : Response) (v : Seen) (P : Chip → Type 0) → selected_by v ≡ found → ((r : Reply) → selected_by v ≡ UnderWay r → P (answered r.channel v.chip))
+first_puts : (found : Response) (v : Seen) (P : Chip → Type 0) → selected_by v ≡ found → ((r : Reply) → selected_by v ≡ Some r → P (answered r.channel v.chip))
     → Puts v P (first_pulse found v)
 unfolding changes driving first_pulse
-first_puts Idle v P is holds put = not_both put
-first_puts (UnderWay r) v P is holds put = (refl, holds r is)
+first_puts None v P is holds put = not_both put
+first_puts (Some r) v P is holds put = (refl, holds r is)
 
 fallen_puts : (response : Response) (v : Seen) (P : Chip → Type 0) → v.response ≡ response
-    → ((r : Reply) → v.response ≡ Idle → selected_by v ≡ UnderWay r → P (answered r.channel v.chip))
+    → ((r : Reply) → v.response ≡ None → selected_by v ≡ Some r → P (answered r.channel v.chip))
     → Puts v P (fallen response v)
 unfolding changes driving fallen
-fallen_puts Idle v P is holds = first_puts (selected_by v) v P refl (λ r found. holds r is found)
-fallen_puts (UnderWay r) v P is holds = λ put. not_both put
+fallen_puts None v P is holds = first_puts (selected_by v) v P refl (λ r found. holds r is found)
+fallen_puts (Some r) v P is holds = λ put. not_both put
 
 after_puts : (last : Bool) (r : Reply) (v : Seen) (P : Chip → Type 0) → P (finished r.channel v.chip) → Puts v P (risen_after last r v)
 unfolding changes risen_after
@@ -61,11 +61,11 @@ after_puts true r v P holds put = (refl, holds)
 after_puts false r v P holds put = not_both put
 
 risen_puts : (response : Response) (v : Seen) (P : Chip → Type 0) → v.response ≡ response
-    → ((r : Reply) → v.response ≡ UnderWay r → P (finished r.channel v.chip))
+    → ((r : Reply) → v.response ≡ Some r → P (finished r.channel v.chip))
     → Puts v P (risen response v)
 unfolding changes risen
-risen_puts Idle v P is holds put = not_both put
-risen_puts (UnderWay r) v P is holds put = after_puts (eqb r.delivered r.length) r v P (holds r is) put
+risen_puts None v P is holds put = not_both put
+risen_puts (Some r) v P is holds put = after_puts (eqb r.delivered r.length) r v P (holds r is) put
 
 pub puts : (by : Event → Seen) (P : Event → Chip → Type 0) → Ways by P → (e : Event) → Puts (by e) (P e) (decided e (by e))
 unfolding changes decided

@@ -1,5 +1,6 @@
 -- A reset ends a wait: it disarms the chip.
 -- Assumes nothing.
+use Rattle.std.specs.Prelude.{Ok}
 use mathlib.Core.Bool.{Bool, true, false, ◌&&◌}
 use mathlib.Core.Path.{◌≡◌, refl, ap, ◌∙◌}
 use Prim.Native.Nat.{ℕ}
@@ -7,7 +8,6 @@ use lib.Dec.{eqb}
 use borrow.Author.Tests.{eqb-true}
 use Rattle.bits.proofs.Below.{either, both_left, both_right}
 use Rattle.refusal.proofs.Numbers.{not_both, accepted_is}
-use Rattle.refusal.specs.declared.Verdict.TheVariants.{Accepted}
 use Rattle.event.specs.declared.Event.{Event}
 use Rattle.event.specs.declared.Event.TheVariants.{Command, Data, Status, Read, Line, Enable, Fall, Rise}
 use Rattle.figure4.specs.Figure4.{figure4, is_reset}
@@ -60,7 +60,7 @@ reset_there s i channel j code r =
     let reset : eqb j i && is_reset code ≡ true = both_left (is_reset_of i (Command j code)) _ r in
     let at : j ≡ i = eqb-true j i (both_left (eqb j i) _ reset) in
     let zero : code ≡ 0 = eqb-true code 0 (both_right (eqb j i) _ reset) in
-    let ok : verdict_of (Command j code) s ≡ Accepted = accepted_is _ (both_right (is_reset_of i (Command j code)) _ r) in
+    let ok : verdict_of (Command j code) s ≡ Ok tt = accepted_is _ (both_right (is_reset_of i (Command j code)) _ r) in
     rw ok (rw at (rw zero (reset_done s i channel)))
 
 pub reset_ends : (e : Event) (s : Chain) (i channel : ℕ) → resets i e s ≡ true → waits (chip_at (event_of e s).chain i) channel ≡ false

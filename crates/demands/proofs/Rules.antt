@@ -1,5 +1,6 @@
 -- What an accepted event and the two views give, proved.
 -- Assumes nothing.
+use Rattle.std.specs.Prelude.{Ok}
 use mathlib.Core.Bool.{Bool, true, false}
 use mathlib.Core.Path.{◌≡◌, refl, ap, sym, subst, ◌∙◌}
 use Prim.Native.Nat.{ℕ, ◌+◌, ◌*◌, ◌/◌, ◌%◌, ◌<◌}
@@ -13,7 +14,6 @@ use Rattle.search.proofs.Order.{candidate_lt}
 use Rattle.search.specs.Candidate.{exists, channel_of}
 use Rattle.refusal.proofs.Numbers.{accepted_is}
 use Rattle.refusal.specs.Numbers.{is_accepted}
-use Rattle.refusal.specs.declared.Verdict.TheVariants.{Accepted}
 use Rattle.chip.specs.Status.{is_armed, is_polled, is_rotating, candidate_of, status_byte}
 use Rattle.chip.specs.declared.Chip.{Chip}
 use Rattle.decide.proofs.Passed.{passed_names}
@@ -39,7 +39,7 @@ use Rattle.demands.specs.Rules.{StatusBits, ByTheRules}
 use Rattle.demands.proofs.Kept.{events_keep}
 
 -- the verdict of an accepted event
-verdict_accepted : (e : Event) (s : Chain) → accepts e s ≡ true → verdict_of e s ≡ Accepted
+verdict_accepted : (e : Event) (s : Chain) → accepts e s ≡ true → verdict_of e s ≡ Ok tt
 verdict_accepted e s h = accepted_is (verdict_of e s) (sym (events_keep.zero_is_accepted e s) ∙ h)
 
 by_its_rule : (e : Event) (s : Chain) → accepts e s ≡ true → event_of e s ≡ record { answer = answer_of e s; chain = counted (changed e s) }
@@ -47,14 +47,14 @@ unfolding event_of judged accepted changed
 by_its_rule e s h = ap (λ v. judged v e s) (verdict_accepted e s h)
 
 -- a view of a chip in the count of a sound chain is not refused
-view_accepted : (s : Chain) (chip : ℕ) → sound s ≡ true → chip < s.count → view_verdict chip s ≡ Accepted
+view_accepted : (s : Chain) (chip : ℕ) → sound s ≡ true → chip < s.count → view_verdict chip s ≡ Ok tt
 view_accepted s chip e h = simp (e, lt-leb s.count chip h)
 
-table_given : (s : Chain) (chip : ℕ) → sound s ≡ true → chip < s.count → register_view chip s ≡ record { verdict = Accepted; table = table_of chip s }
+table_given : (s : Chain) (chip : ℕ) → sound s ≡ true → chip < s.count → register_view chip s ≡ record { verdict = (Ok tt); table = table_of chip s }
 unfolding register_view
 table_given s chip e h = simp (view_accepted s chip e h)
 
-picture_given : (s : Chain) (chip : ℕ) → sound s ≡ true → chip < s.count → pin_view chip s ≡ record { verdict = Accepted; picture = picture_of chip s }
+picture_given : (s : Chain) (chip : ℕ) → sound s ≡ true → chip < s.count → pin_view chip s ≡ record { verdict = (Ok tt); picture = picture_of chip s }
 unfolding pin_view
 picture_given s chip e h = simp (view_accepted s chip e h)
 
@@ -111,7 +111,7 @@ read_byte : (s : Chain) (chip : ℕ) → accepts (Status chip) s ≡ true
     → (handed (event_of (Status chip) s).answer).byte ≡ (register_view chip s).table.status
 unfolding changes decision decided seen_at
 read_byte s chip h =
-    let v : verdict_of (Status chip) s ≡ Accepted = verdict_accepted (Status chip) s h in
+    let v : verdict_of (Status chip) s ≡ Ok tt = verdict_accepted (Status chip) s h in
     ap (λ (o : Outcome). (handed o.answer).byte) (by_its_rule (Status chip) s h)
     ∙ sym (ap (λ (r : RegisterView). r.table.status) (table_given s chip (passed_sound (Status chip) s v) (passed_names (Status chip) (seen_by (Status chip) s) refl (passed_tests (Status chip) s v))))
 

@@ -1,5 +1,6 @@
 -- What a run counts, proved: each event by event, then for the whole run.
 -- Assumes nothing.
+use Rattle.std.specs.Prelude.{Some, None, Ok, Err}
 use mathlib.Core.Bool.{Bool, true, false}
 use mathlib.Core.List.{List}
 use mathlib.Core.Path.{◌≡◌, refl, ap, sym, ◌∙◌, subst}
@@ -13,29 +14,27 @@ use Rattle.refusal.specs.Numbers.{refusal_number, is_accepted}
 use Rattle.chain.proofs.Number as number
 use Rattle.refusal.specs.Answers.{verdict_in, handed}
 use Rattle.chain.specs.Sound.{sound}
-use Rattle.refusal.specs.declared.Answer.{Answer}
-use Rattle.refusal.specs.declared.Answer.TheVariants.{Done, Byte, Refused}
+use Rattle.refusal.specs.Numbers.{Answer}
 use Rattle.chain.specs.declared.Chain.{Chain}
 use Rattle.run.proofs.Before as before_any_lem
 use Rattle.run.proofs.Count as count
 use Rattle.run.proofs.Steps.{step_sound, run_through}
 use Rattle.run.specs.List.{listed_at}
 use Rattle.run.specs.Run.{Report, list_length, before_any, listed_outcome, stopped, run_from, accepted_from, run_of}
-use Rattle.event.specs.declared.Listed.{Listed}
-use Rattle.event.specs.declared.Listed.TheVariants.{Known, Unknown}
+use Rattle.event.specs.Numbers.{Listed}
 use Rattle.demands.proofs.Kept.{no_event}
 use Rattle.demands.proofs.OneEvent.{in_four_bytes, one_event}
 use Rattle.demands.proofs.Performed.{performed}
 use Rattle.demands.specs.Runs.{Runs}
 
 pub zero_is_accepted : (a : Answer) → is_accepted (verdict_in a) ≡ eqb (handed a).number 0
-zero_is_accepted Done = refl
-zero_is_accepted (Byte b) = refl
-zero_is_accepted (Refused why) = sym (ne_eqb (refusal_number why) 0 (not_zero why))
+zero_is_accepted (Ok None) = refl
+zero_is_accepted (Ok (Some b)) = refl
+zero_is_accepted (Err why) = sym (ne_eqb (refusal_number why) 0 (not_zero why))
 
 step_number : (l : Listed) (s : Chain) → is_accepted (verdict_in (listed_outcome l s).answer) ≡ true → (listed_outcome l s).chain.event ≡ (s.event + 1) % 65536
-step_number (Known e) s h = number.number_counts e s (eqb-true _ 0 (sym (zero_is_accepted (listed_outcome (Known e) s).answer) ∙ h))
-step_number Unknown s h = not_both h
+step_number (Ok e) s h = number.number_counts e s (eqb-true _ 0 (sym (zero_is_accepted (listed_outcome (Ok e) s).answer) ∙ h))
+step_number (Err _) s h = not_both h
 
 one_more : (n m a : ℕ) → m ≡ (n + 1) % 65536 → (m + a) % 65536 ≡ (n + (a + 1)) % 65536
 one_more n m a is = omega (arith, is)

@@ -1,5 +1,6 @@
 -- Every call goes by the one table of numbers, proved: the tests of each call, taken in their order, are the entries of the table that can apply to it.
 -- Assumes nothing.
+use Rattle.std.specs.Prelude.{Option, Some, None, Ok}
 use mathlib.Core.Bool.{Bool, true, false, not}
 use mathlib.Core.List.{List, [], ◌∷◌, ◌++◌}
 use mathlib.Core.Path.{◌≡◌, refl, ap, sym, subst, ◌∙◌}
@@ -11,13 +12,10 @@ use borrow.Author.Tests.{le-leb, lt-leb, leb-true, leb-false, ne_eqb, lt-ltb, le
 use Rattle.figure4.proofs.Figure4.{undefined_codes}
 use Rattle.search.proofs.Order.{candidate_lt}
 use Rattle.search.specs.Candidate.{candidate, candidate_number, channel_of, search_number}
-use Rattle.search.specs.declared.Candidate.{Candidate}
-use Rattle.search.specs.declared.Candidate.TheVariants.{Channel, Nobody}
 use Rattle.refusal.proofs.Numbers.{not_both}
 use Rattle.refusal.specs.Numbers.{refusal_number, verdict_number, is_accepted, first_of_list}
 use Rattle.refusal.specs.declared.Refusal.{Refusal}
-use Rattle.refusal.specs.declared.Verdict.{Verdict}
-use Rattle.refusal.specs.declared.Verdict.TheVariants.{Accepted}
+use Rattle.refusal.specs.Numbers.{Verdict}
 use Rattle.bits.proofs.Below.{either}
 use Rattle.refusal.specs.Answers.{verdict_in, handed}
 use Rattle.chain.specs.Events.{accepted, refused, judged, event_of}
@@ -52,8 +50,8 @@ first-given ((false, why) ∷ l) = first-given l
 -- an event
 judged_number : (v : Verdict) (e : Event) (s : Chain) → (handed (judged v e s).answer).number ≡ verdict_number v
 unfolding judged accepted refused
-judged_number (Verdict.Refused why) e s = refl
-judged_number Accepted e s = answers_zero e s
+judged_number (Err why) e s = refl
+judged_number (Ok tt) e s = answers_zero e s
 
 verdict_given : (e : Event) (s : Chain) → given (entries (not_sound s ∷ checks e (seen_by e s))) ≡ given (event_entries (in_numbers e) s)
 unfolding seen_at
@@ -186,9 +184,9 @@ run_number s bytes limit results = by (is_accepted (before_any s bytes results))
         (sym (decided tests (last_entries bytes most (stopped (before_any s bytes results) 0 s results)) h))
 
 -- the C search
-not_254 : (c : Candidate) → channel_of c < 8 → eqb (candidate_number c) 254 ≡ false
-not_254 (Channel k) h = ne_eqb k 254 (λ is. absurd (omega (arith, is)))
-not_254 Nobody h = refl
+not_254 : (c : Option ℕ) → channel_of c < 8 → eqb (candidate_number c) 254 ≡ false
+not_254 (Some k) h = ne_eqb k 254 (λ is. absurd (omega (arith, is)))
+not_254 None h = refl
 
 search_number_lem : (irr imr isr mode pointer : ℕ) → eqb (search_number irr imr isr mode pointer) 254 ≡ ltb 7 pointer
 unfolding search_number

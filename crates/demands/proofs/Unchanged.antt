@@ -1,5 +1,6 @@
 -- What a refusal leaves as it was, proved: for an event, a start and the views by the verdict, for a run event by event.
 -- Assumes nothing.
+use Rattle.std.specs.Prelude.{Ok, Err}
 use mathlib.Core.Bool.{true, false}
 use mathlib.Core.List.{List}
 use mathlib.Core.Path.{◌≡◌, refl, ap, sym, ◌∙◌}
@@ -7,8 +8,7 @@ use Prim.Native.Nat.{ℕ, ◌+◌, ◌*◌, ◌≤◌, min}
 use native.Mathlib.Omega.{arith}
 use lib.ListN.{get_or, length}
 use Rattle.refusal.specs.Numbers.{verdict_number, is_accepted}
-use Rattle.refusal.specs.declared.Verdict.{Verdict}
-use Rattle.refusal.specs.declared.Verdict.TheVariants.{Accepted, Refused}
+use Rattle.refusal.specs.Numbers.{Verdict}
 use Rattle.bits.proofs.Below.{either}
 use Rattle.refusal.specs.Answers.{Handed, handed}
 use Rattle.chain.specs.Events.{accepted, refused, judged, event_of}
@@ -34,14 +34,14 @@ use Rattle.demands.proofs.Runs.{whole, counted}
 -- an event
 as_given : (v : Verdict) (e : Event) (s : Chain) → ((handed (judged v e s).answer).number ≡ 0 → ⊥) → (judged v e s).chain ≡ s
 unfolding judged accepted refused
-as_given (Refused why) e s other = refl
-as_given Accepted e s other = absurd (other (answers_zero e s))
+as_given (Err why) e s other = refl
+as_given (Ok tt) e s other = absurd (other (answers_zero e s))
 
 no_byte : (v : Verdict) (e : Event) (s : Chain) → ((handed (judged v e s).answer).number ≡ 0 → ⊥)
     → ((handed (judged v e s).answer).drove ≡ 0) × ((handed (judged v e s).answer).byte ≡ 0)
 unfolding judged accepted refused
-no_byte (Refused why) e s other = (refl, refl)
-no_byte Accepted e s other = absurd (other (answers_zero e s))
+no_byte (Err why) e s other = (refl, refl)
+no_byte (Ok tt) e s other = absurd (other (answers_zero e s))
 
 -- a start
 no_start : (count fill : ℕ) → ((handed (start_of count fill).answer).number ≡ 0 → ⊥) → (start_of count fill).chain ≡ zero_chain
@@ -53,8 +53,8 @@ no_start count fill =
 
 -- a view: it is refused where its number is not 0
 is_refused : (v : Verdict) → (verdict_number v ≡ 0 → ⊥) → is_accepted v ≡ false
-is_refused (Refused why) other = refl
-is_refused Accepted other = absurd (other refl)
+is_refused (Err why) other = refl
+is_refused (Ok tt) other = absurd (other refl)
 
 -- a run
 from_length : (bytes : List ℕ) (left n : ℕ) (s : Chain) (results : List ℕ) → length (run_from left bytes n s results).results ≡ length results

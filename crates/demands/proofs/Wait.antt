@@ -1,6 +1,7 @@
 -- One event of a wait. Every event but an answer and a reset leaves the chip's pointer; an answer for another channel brings the request nearer; and a
 -- first pulse that counts is answered by the chip.
 -- Assumes nothing.
+use Rattle.std.specs.Prelude.{Some, None, Ok}
 use mathlib.Core.Bool.{Bool, true, false, not, ◌&&◌}
 use mathlib.Core.List.{List, [], ◌∷◌}
 use mathlib.Core.Path.{◌≡◌, refl, ap, sym, subst, ◌∙◌}
@@ -20,7 +21,6 @@ use Rattle.search.specs.Candidate.{candidate, exists}
 use Rattle.search.specs.Order.{last_of, first_waiting}
 use Rattle.refusal.proofs.Numbers.{not_both, accepted_is}
 use Rattle.refusal.specs.Numbers.{is_accepted}
-use Rattle.refusal.specs.declared.Verdict.TheVariants.{Accepted}
 use Rattle.event.proofs.Told.{is_fall_lem}
 use Rattle.event.specs.Numbers.{is_fall}
 use Rattle.event.specs.declared.Event.{Event}
@@ -33,8 +33,7 @@ use Rattle.chip.specs.Status.{is_armed, is_polled, is_rotating, candidate_of, gi
 use Rattle.chip.specs.declared.Chip.{Chip}
 use Rattle.response.specs.Held.{reply_of, is_idle, is_responding}
 use Rattle.response.specs.declared.Reply.{Reply}
-use Rattle.response.specs.declared.Response.{Response}
-use Rattle.response.specs.declared.Response.TheVariants.{Idle, UnderWay}
+use Rattle.response.specs.Held.{Response}
 use Rattle.decide.proofs.Rules.{changes}
 use Rattle.decide.proofs.Soundness.{selected_is}
 use Rattle.decide.specs.Decided.{decided}
@@ -94,7 +93,7 @@ last_false false b ea e = not_both ea
 module _ (s : Chain) (i : ℕ) where
   abbrev Same : Event → Chip → Type 0
   Same e c =
-      verdict_of e s ≡ Accepted → resets i e s ≡ false → is_first_pulse e s && is_responding (selected s) i ≡ false → (seen_by e s).at ≡ i → c.pointer ≡ pointer_at s i
+      verdict_of e s ≡ Ok tt → resets i e s ≡ false → is_first_pulse e s && is_responding (selected s) i ≡ false → (seen_by e s).at ≡ i → c.pointer ≡ pointer_at s i
 
   first-answered : (ok idle responding : Bool) → ok ≡ true → ok && idle && responding ≡ false → idle && responding ≡ false
   first-answered true idle responding e quiet = quiet
@@ -132,9 +131,9 @@ in_list [] i e = not_both e
 in_list (c ∷ l) zero e = zero-lt-suc _
 in_list (c ∷ l) (suc i) e = suc-le-suc (in_list l i e)
 
-idle_is : (response : Response) → is_idle response ≡ true → response ≡ Idle
-idle_is Idle e = refl
-idle_is (UnderWay r) e = not_both e
+idle_is : (response : Response) → is_idle response ≡ true → response ≡ None
+idle_is None e = refl
+idle_is (Some r) e = not_both e
 
 -- chip i with another one put there
 pub put_there : (c : Change) (s : Chain) (i : ℕ) → c.replaces ≡ true → c.at ≡ i → is_armed (chip_at s i) ≡ true → chip_at (applied c s) i ≡ c.chip
@@ -145,16 +144,16 @@ put_there c s i put is armed =
     there : chip_at (replaced_in c s) i ≡ c.chip
     there = rw put (rw is (get_or-set_same s.chips i c.chip zero_chip (in_list s.chips i armed)))
 
-first_pointer : (found : Response) (s : Chain) (r : Reply) → selected s ≡ found → found ≡ UnderWay r → is_armed (chip_at s r.chip) ≡ true
+first_pointer : (found : Response) (s : Chain) (r : Reply) → selected s ≡ found → found ≡ Some r → is_armed (chip_at s r.chip) ≡ true
     → pointer_at (applied (first_pulse found (seen_in Answering s)) s) r.chip ≡ r.channel
 unfolding changes driving first_pulse selected seen_at
 first_pointer found s r is under armed =
     let at : r.chip ≡ answering_chip s = ap (λ (r : Reply). r.chip) (selected_is (seen_in Answering s) r (is ∙ under)).1 in
     subst (λ (found : Response). pointer_at (applied (first_pulse found (seen_in Answering s)) s) r.chip ≡ r.channel) (sym under)
-    (ap (λ (c : Chip). c.pointer) (put_there (first_pulse (UnderWay r) (seen_in Answering s)) s r.chip refl (sym at) armed)
+    (ap (λ (c : Chip). c.pointer) (put_there (first_pulse (Some r) (seen_in Answering s)) s r.chip refl (sym at) armed)
     ∙ answered_pointer r.channel _)
 
-answer_pointer : (s : Chain) (r : Reply) → verdict_of Fall s ≡ Accepted → is_idle s.response ≡ true → selected s ≡ UnderWay r
+answer_pointer : (s : Chain) (r : Reply) → verdict_of Fall s ≡ Ok tt → is_idle s.response ≡ true → selected s ≡ Some r
     → is_armed (chip_at s r.chip) ≡ true
     → pointer_at (event_of Fall s).chain r.chip ≡ r.channel
 unfolding chain_fields event_of judged accepted counted decision decided fallen selected seen_at
@@ -172,9 +171,9 @@ pointer_le : (s : Chain) (i : ℕ) → sound s ≡ true → i < s.count → poin
 pointer_le s i e h = leb-true _ 7 (pointer_sound (chip_at s i) (chip_sound_lem s i e h))
 
 other_nearer : (s : Chain) (r : Reply) (channel : ℕ) → sound s ≡ true → r.chip < s.count → channel < 8 → Waiting (chip_at s r.chip) channel
-    → verdict_of Fall s ≡ Accepted
+    → verdict_of Fall s ≡ Ok tt
     → is_idle s.response ≡ true
-    → selected s ≡ UnderWay r
+    → selected s ≡ Some r
     → (r.channel ≡ channel → ⊥)
     → place_of (pointer_at (event_of Fall s).chain r.chip) channel < place_of (pointer_at s r.chip) channel
 other_nearer s r channel e h hc w v idle is other =
@@ -190,13 +189,13 @@ other_nearer s r channel e h hc w v idle is other =
 -- an event that is no answer of the chip for another channel
 no_other : (fp : Bool) (response : Response) (i channel : ℕ) → fp && is_responding response i ≡ false → fp && is_for_another i channel response ≡ false
 no_other false response i channel e = refl
-no_other true Idle i channel e = refl
-no_other true (UnderWay r) i channel e = ap (λ (b : Bool). b && not (eqb r.channel channel)) e
+no_other true None i channel e = refl
+no_other true (Some r) i channel e = ap (λ (b : Bool). b && not (eqb r.channel channel)) e
 
 -- the parts of a first pulse
 pub record FirstPulse (e : Event) (s : Chain) : Type 0 where
   pub fall : e ≡ Fall
-  pub accepted_fall : verdict_of e s ≡ Accepted
+  pub accepted_fall : verdict_of e s ≡ Ok tt
   pub idle : is_idle s.response ≡ true
 
 pub first_pulse_parts : (e : Event) (s : Chain) → is_first_pulse e s ≡ true → FirstPulse e s
@@ -217,9 +216,9 @@ answered_step : (found : Response) (s : Chain) (i channel : ℕ) → selected s 
     → FirstPulse Fall s
     → is_for i channel found ≡ false
     → Nearer i channel Fall s
-answered_step Idle s i channel is here = not_both here
-answered_step (UnderWay r) s i channel is here =
-    subst (λ (i : ℕ). sound s ≡ true → i < s.count → channel < 8 → waits (chip_at s i) channel ≡ true → FirstPulse Fall s → is_for i channel (UnderWay r) ≡ false → Nearer i channel Fall s)
+answered_step None s i channel is here = not_both here
+answered_step (Some r) s i channel is here =
+    subst (λ (i : ℕ). sound s ≡ true → i < s.count → channel < 8 → waits (chip_at s i) channel ≡ true → FirstPulse Fall s → is_for i channel (Some r) ≡ false → Nearer i channel Fall s)
     (eqb-true r.chip i here)
     (λ e h hc w p other.
     let ahead : place_of (pointer_at (event_of Fall s).chain r.chip) channel < place_of (pointer_at s r.chip) channel =
@@ -272,7 +271,7 @@ counted-answered e s i channel here h hc w counts other =
     let found : exists (candidate_of c) ≡ true =
     ap (λ (isr : ℕ). exists (candidate c.irr c.imr isr c.mode c.pointer)) empty
     ∙ candidate_exists c.irr c.imr c.mode c.pointer p.armed within in
-    let is : selected s ≡ UnderWay (reply_of i c) =
+    let is : selected s ≡ Some (reply_of i c) =
     reached_selected s i h
     (ei_high s i (both_left (is_idle s.response) _ two) (both_right (is_idle s.response) _ two) (every_each i (λ j. is_armed (chip_at s j)) armed))
     (simp (p.interrupt, found))

@@ -1,5 +1,6 @@
 -- What the types of the arrays say stays so in the definitions: events and runs keep a chain whole, and a start gives a whole one.
 -- Assumes nothing.
+use Rattle.std.specs.Prelude.{Ok, Err}
 use mathlib.Core.Bool.{Bool, true, false}
 use mathlib.Core.List.{List}
 use mathlib.Core.Path.{◌≡◌, refl, ap, sym, subst, ◌∙◌}
@@ -10,10 +11,9 @@ use borrow.Author.Tests.{ltb-true, ltb-false}
 use Rattle.bits.proofs.Below.{either}
 use Rattle.bits.proofs.Stored.{get_d_past}
 use Rattle.bits.specs.Byte.{bit}
-use Rattle.refusal.specs.declared.Verdict.{Verdict}
+use Rattle.refusal.specs.Numbers.{Verdict}
 use Rattle.event.specs.declared.Event.{Event}
-use Rattle.event.specs.declared.Listed.{Listed}
-use Rattle.event.specs.declared.Listed.TheVariants.{Known, Unknown}
+use Rattle.event.specs.Numbers.{Listed}
 use Rattle.chip.proofs.Rules.{chip_fields}
 use Rattle.chip.specs.Acknowledge.{answered, finished}
 use Rattle.chip.specs.Command.{obey, commanded}
@@ -27,8 +27,7 @@ use Rattle.figure4.specs.declared.Command.{Command}
 use Rattle.figure4.specs.declared.Command.TheVariants.{Reset, ClearIrrAndImr, ClearIrrAndImrBit, ClearImr, ClearImrBit, SetImr, SetImrBit, ClearIrr, ClearIrrBit, SetIrr, SetIrrBit, ClearHighestIsr, ClearIsr, ClearIsrBit, LoadMode, LoadRead, LoadReadAndArm, LoadReadAndDisarm, PreselectImr, PreselectAcr, PreselectLevel}
 use Rattle.chip.specs.declared.Destination.{Destination}
 use Rattle.chip.specs.declared.Destination.TheVariants.{Nowhere, Imr, Acr, Level}
-use Rattle.figure4.specs.declared.Meaning.{Meaning}
-use Rattle.figure4.specs.declared.Meaning.TheVariants.{Row, Undefined}
+use Rattle.figure4.specs.Figure4.{Meaning}
 use Rattle.decide.specs.Decided.{decided}
 use Rattle.decide.specs.declared.Seen.{Seen}
 use Rattle.chain.proofs.Kept.{applied_chips}
@@ -84,8 +83,8 @@ obeyed (PreselectLevel count level) c = record { counts = length-set c.counts le
 
 commanded_as : (meaning : Meaning) (code : ℕ) (c : Chip) → AsLarge c (commanded meaning code c)
 unfolding chip_fields commanded
-commanded_as (Row row) code c = let o = obeyed row _ in record { counts = o.counts; memory = o.memory }
-commanded_as (Undefined kind) code c = record { counts = refl; memory = refl }
+commanded_as (Ok row) code c = let o = obeyed row _ in record { counts = o.counts; memory = o.memory }
+commanded_as (Err kind) code c = record { counts = refl; memory = refl }
 
 written_as : (d : Destination) (byte : ℕ) (c : Chip) → AsLarge c (data_written d byte c)
 unfolding chip_fields data_written
@@ -149,8 +148,8 @@ judged_whole v e s w =
 
 step_whole : (listed : Listed) (s : Chain) → Whole s → Whole (listed_outcome listed s).chain
 unfolding event_of
-step_whole (Known e) s w = judged_whole (verdict_of e s) e s w
-step_whole Unknown s w = w
+step_whole (Ok e) s w = judged_whole (verdict_of e s) e s w
+step_whole (Err _) s w = w
 
 from_whole : (bytes : List ℕ) (left n : ℕ) (s : Chain) (results : List ℕ) → Whole s → Whole (run_from left bytes n s results).ran.chain
 from_whole bytes =

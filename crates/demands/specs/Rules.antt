@@ -1,4 +1,5 @@
 -- What an accepted event and the two views give: what the rules of the model say, and nothing else.
+use Rattle.std.specs.Prelude.{Ok}
 use Rattle.std.specs.Prelude.{Bool, true, not, ◌&&◌, ◌≡◌, ℕ, ◌+◌, ◌%◌, ◌<◌}
 use Rattle.bits.specs.Below.{digit}
 use Rattle.bits.specs.Byte.{bit}
@@ -6,7 +7,6 @@ use Rattle.search.specs.Candidate.{exists, channel_of}
 use Rattle.chip.specs.Status.{is_armed, is_polled, is_rotating, candidate_of}
 use Rattle.chip.specs.declared.Chip.{Chip}
 use Rattle.refusal.specs.Answers.{handed}
-use Rattle.refusal.specs.declared.Verdict.TheVariants.{Accepted}
 use Rattle.views.specs.Views.{table_of, picture_of, register_view, pin_view}
 use Rattle.chain.specs.Apply.{answer_of, changed, counted}
 use Rattle.chain.specs.Events.{event_of}
@@ -36,8 +36,8 @@ pub record ByTheRules : Type 0 where
   -- an accepted event answers by its rule, and leaves the chain of its rule, counted: each register and each response byte
   pub event : (e : Event) (s : Chain) → accepts e s ≡ true → event_of e s ≡ record { answer = answer_of e s; chain = counted (changed e s) }
   -- the views of a chip in the count of a sound chain are given: each register, the status byte and each pin, with the chain's event number
-  pub table : (s : Chain) (chip : ℕ) → sound s ≡ true → chip < s.count → register_view chip s ≡ record { verdict = Accepted; table = table_of chip s }
-  pub picture : (s : Chain) (chip : ℕ) → sound s ≡ true → chip < s.count → pin_view chip s ≡ record { verdict = Accepted; picture = picture_of chip s }
+  pub table : (s : Chain) (chip : ℕ) → sound s ≡ true → chip < s.count → register_view chip s ≡ record { verdict = (Ok tt); table = table_of chip s }
+  pub picture : (s : Chain) (chip : ℕ) → sound s ≡ true → chip < s.count → pin_view chip s ≡ record { verdict = (Ok tt); picture = picture_of chip s }
   -- the status byte that is read is that of the table of the same state
   pub status_read : (s : Chain) (chip : ℕ) → accepts (Status chip) s ≡ true
       → (handed (event_of (Status chip) s).answer).byte ≡ (register_view chip s).table.status

@@ -1,12 +1,12 @@
 -- What a run does and counts (the rules paper, "Views and runs"). What a refused one leaves as it was: Unchanged.
+use Rattle.std.specs.Prelude.{Ok}
 use Rattle.std.specs.Prelude.{Bool, true, cond, List, [], ◌∷◌, ◌≡◌, ℕ, ◌+◌, ◌*◌, ◌%◌, ◌≤◌, ◌<◌, min, eqb, get_or, length}
 use Rattle.bits.specs.Below.{digit}
 use Rattle.refusal.specs.Numbers.{is_accepted}
 use Rattle.refusal.specs.Answers.{verdict_in, handed}
-use Rattle.refusal.specs.declared.Answer.{Answer}
+use Rattle.refusal.specs.Numbers.{Answer}
 use Rattle.event.specs.Numbers.{in_numbers}
 use Rattle.event.specs.declared.Event.{Event}
-use Rattle.event.specs.declared.Listed.TheVariants.{Known}
 use Rattle.chain.specs.Events.{event_of}
 use Rattle.chain.specs.Sound.{sound}
 use Rattle.chain.specs.declared.Chain.{Chain}
@@ -39,8 +39,8 @@ pub record Runs : Type 0 where
       → Performed bytes n (run_of s bytes n results).ran.chain (run_of s bytes (n + 1) results).ran.chain (run_of s bytes limit results).results
   -- every event has its four bytes; and a run of one event, whatever stands in the bytes that it does not use, with room for its two results, does what the
   -- event's own call does: the two ways in cannot part
-  pub in_four_bytes : (e : Event) → listed_at (in_bytes e) 0 ≡ Known e
-  pub one_event : (e : Event) (s : Chain) (bytes : List ℕ) (limit : ℕ) (results : List ℕ) → length bytes ≡ 4 → listed_at bytes 0 ≡ Known e → 1 ≤ limit → 2 ≤ length results
+  pub in_four_bytes : (e : Event) → listed_at (in_bytes e) 0 ≡ Ok e
+  pub one_event : (e : Event) (s : Chain) (bytes : List ℕ) (limit : ℕ) (results : List ℕ) → length bytes ≡ 4 → listed_at bytes 0 ≡ Ok e → 1 ≤ limit → 2 ≤ length results
       → run_of s bytes limit results ≡ as_the_call (event_of e s) results
   -- the event number is the number before plus the accepted events, modulo 65,536
   pub number_counts : (s : Chain) (bytes : List ℕ) (limit : ℕ) (results : List ℕ) → s.event < 65536

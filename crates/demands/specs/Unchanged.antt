@@ -1,7 +1,7 @@
 -- What a refusal leaves as it was (the rules paper, "Numbers handed back"): the chain, and every byte of a lent buffer.
+use Rattle.std.specs.Prelude.{Ok}
 use Rattle.std.specs.Prelude.{true, false, List, ◌≡◌, ℕ, ◌*◌, ◌≤◌, get_or, length}
 use Rattle.refusal.specs.Numbers.{verdict_number, is_accepted}
-use Rattle.refusal.specs.declared.Verdict.TheVariants.{Accepted}
 use Rattle.refusal.specs.Answers.{handed}
 use Rattle.views.specs.Views.{register_view, pin_view}
 use Rattle.chain.specs.Events.{event_of}
@@ -13,7 +13,7 @@ use Rattle.run.specs.Run.{Report, before_any, stopped, run_of}
 
 -- a report that is the same but for its refusal
 abbrev pub unrefused : Report → Report
-unrefused r = stopped Accepted r.ran.accepted r.ran.chain r.results
+unrefused r = stopped (Ok tt) r.ran.accepted r.ran.chain r.results
 
 pub record Unchanged : Type 0 where
   -- a refused event hands back the chain as given, and no byte

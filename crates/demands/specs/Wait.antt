@@ -1,4 +1,5 @@
 -- What the third demand speaks of: a wait, a first pulse that reaches a chip, and the two counts. Over any chain and any list of events.
+use Rattle.std.specs.Prelude.{Some, None}
 use Rattle.std.specs.Prelude.{Bool, true, false, not, ◌&&◌, List, [], ◌∷◌, ◌≡◌, ℕ, ◌<◌, eqb}
 use Rattle.bits.specs.Below.{every}
 use Rattle.bits.specs.Byte.{is_waiting}
@@ -15,8 +16,7 @@ use Rattle.chain.specs.Sound.{sound}
 use Rattle.chain.specs.declared.Chain.{Chain}
 use Rattle.event.specs.declared.Event.{Event}
 use Rattle.event.specs.Numbers.{in_numbers, is_kind, is_fall}
-use Rattle.response.specs.declared.Response.{Response}
-use Rattle.response.specs.declared.Response.TheVariants.{Idle, UnderWay}
+use Rattle.response.specs.Held.{Response}
 use Rattle.demands.specs.Along.{along}
 
 -- a chip that is armed, in interrupt mode and in rotating priority, and a request on it that is latched and unmasked
@@ -33,12 +33,12 @@ is_first_pulse e s = is_pulse e s && is_idle s.response
 
 -- the response is chip i's for the channel; or chip i's for another one
 abbrev pub is_for : ℕ → ℕ → Response → Bool
-is_for i channel Idle = false
-is_for i channel (UnderWay r) = eqb r.chip i && eqb r.channel channel
+is_for i channel None = false
+is_for i channel (Some r) = eqb r.chip i && eqb r.channel channel
 
 abbrev pub is_for_another : ℕ → ℕ → Response → Bool
-is_for_another i channel Idle = false
-is_for_another i channel (UnderWay r) = eqb r.chip i && not (eqb r.channel channel)
+is_for_another i channel None = false
+is_for_another i channel (Some r) = eqb r.chip i && not (eqb r.channel channel)
 
 -- the event answers the request; or it is an acknowledge that the chip answers for another channel
 unfoldable pub answers_it : ℕ → ℕ → Event → Chain → Bool

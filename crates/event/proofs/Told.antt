@@ -1,13 +1,13 @@
 -- The four numbers of an event are read as that event, and a kind names its event.
 -- Assumes nothing.
+use Rattle.std.specs.Prelude.{Ok, Err}
 use Rattle.std.proofs.Common.{◌≡◌, ℕ, true, sym, refl, ap, ◌∙◌, eqb-true}
 use Rattle.event.specs.Numbers.{listed, in_numbers, is_kind, is_fall}
 use Rattle.event.specs.declared.Event.{Event}
 use Rattle.event.specs.declared.Event.TheVariants.{Command, Data, Status, Read, Line, Enable, Fall, Rise}
-use Rattle.event.specs.declared.Listed.{Listed}
-use Rattle.event.specs.declared.Listed.TheVariants.{Known, Unknown}
+use Rattle.event.specs.Numbers.{Listed}
 
-pub read_as_written : (e : Event) → listed (in_numbers e).kind (in_numbers e).chip (in_numbers e).channel (in_numbers e).value ≡ Known e
+pub read_as_written : (e : Event) → listed (in_numbers e).kind (in_numbers e).chip (in_numbers e).channel (in_numbers e).value ≡ Ok e
 read_as_written (Command chip code) = refl
 read_as_written (Data chip byte) = refl
 read_as_written (Status chip) = refl
@@ -19,8 +19,8 @@ read_as_written Rise = refl
 
 -- so the kind of an event tells which it is
 abbrev known : Event → Listed → Event
-known other (Known e) = e
-known other Unknown = other
+known other (Ok e) = e
+known other (Err _) = other
 
 of_kind : (e : Event) (kind : ℕ) → is_kind kind e ≡ true → e ≡ known e (listed kind (in_numbers e).chip (in_numbers e).channel (in_numbers e).value)
 of_kind e kind h =

@@ -1,23 +1,25 @@
 -- An event as four numbers (the rules paper, "Views and runs"): kind 1 to 8, chip, channel, value; unused ones are ignored.
-use Rattle.std.specs.Prelude.{ℕ, Bool, cond, ◌==◌}
+use Rattle.std.specs.Prelude.{ℕ, Bool, cond, ◌==◌, Result, Ok, Err}
 use Rattle.event.specs.declared.Event.{Event}
 use Rattle.event.specs.declared.Event.TheVariants.{Command, Data, Status, Read, Line, Enable, Fall, Rise}
-use Rattle.event.specs.declared.Listed.{Listed}
-use Rattle.event.specs.declared.Listed.TheVariants.{Known, Unknown}
 use Rattle.event.specs.declared.Numbered.{Numbered}
+use Rattle.event.specs.declared.UnknownKind.{UnknownKind}
 
--- what four numbers are
+-- what four numbers are: an event, or of no kind that is known
+abbrev pub Listed : Type 0
+Listed = Result Event UnknownKind
+
 abbrev pub listed : ℕ → ℕ → ℕ → ℕ → Listed
 listed kind chip channel value =
-    cond (kind == 1) (Known (Command chip value))
-    (cond (kind == 2) (Known (Data chip value))
-    (cond (kind == 3) (Known (Status chip))
-    (cond (kind == 4) (Known (Read chip))
-    (cond (kind == 5) (Known (Line chip channel value))
-    (cond (kind == 6) (Known (Enable value))
-    (cond (kind == 7) (Known Fall)
-    (cond (kind == 8) (Known Rise)
-    Unknown)))))))
+    cond (kind == 1) (Ok (Command chip value))
+    (cond (kind == 2) (Ok (Data chip value))
+    (cond (kind == 3) (Ok (Status chip))
+    (cond (kind == 4) (Ok (Read chip))
+    (cond (kind == 5) (Ok (Line chip channel value))
+    (cond (kind == 6) (Ok (Enable value))
+    (cond (kind == 7) (Ok Fall)
+    (cond (kind == 8) (Ok Rise)
+    (Err (record { 0 = kind })))))))))
 
 -- four numbers
 abbrev pub numbered : ℕ → ℕ → ℕ → ℕ → Numbered

@@ -22,12 +22,9 @@ pub enum Event {
     Rise,
 }
 
-// What four numbers of a list are: one of the eight events, or a kind outside 1 to 8.
-#[derive(Clone, Copy)]
-pub enum Listed {
-    Known(Event),
-    Unknown,
-}
+// A kind outside 1 to 8.
+#[derive(Clone, Copy, Debug, PartialEq, Eq)]
+pub struct UnknownKind(pub u8);
 
 // Four numbers.
 #[derive(Clone, Copy)]
@@ -38,79 +35,53 @@ pub struct Numbered {
     pub value: u8,
 }
 
-impl Event {
-    // The four numbers of an event; what its kind does not use is 0.
-    pub fn numbers(self) -> Numbered
-        ensures { result ≡ in_numbers self }
-    {
-        match self {
-            Event::Command(chip, code) => Numbered {
-                kind: 1,
-                chip: chip,
-                channel: 0,
-                value: code,
-            },
-            Event::Data(chip, byte) => Numbered {
-                kind: 2,
-                chip: chip,
-                channel: 0,
-                value: byte,
-            },
-            Event::Status(chip) => Numbered {
-                kind: 3,
-                chip: chip,
-                channel: 0,
-                value: 0,
-            },
-            Event::Read(chip) => Numbered {
-                kind: 4,
-                chip: chip,
-                channel: 0,
-                value: 0,
-            },
-            Event::Line(chip, channel, level) => Numbered {
-                kind: 5,
-                chip: chip,
-                channel: channel,
-                value: level,
-            },
-            Event::Enable(level) => Numbered {
-                kind: 6,
-                chip: 0,
-                channel: 0,
-                value: level,
-            },
-            Event::Fall => Numbered {
-                kind: 7,
-                chip: 0,
-                channel: 0,
-                value: 0,
-            },
-            Event::Rise => Numbered {
-                kind: 8,
-                chip: 0,
-                channel: 0,
-                value: 0,
-            },
+// The four numbers of an event; what its kind does not use is 0.
+impl From<Event> for Numbered {
+    ghost from_gives = { λ e n. n ≡ in_numbers e };
+
+    fn from(e: Event) -> Numbered {
+        let (kind, chip, channel, value) = match e {
+            Event::Command(chip, code) => (1, chip, 0, code),
+            Event::Data(chip, byte) => (2, chip, 0, byte),
+            Event::Status(chip) => (3, chip, 0, 0),
+            Event::Read(chip) => (4, chip, 0, 0),
+            Event::Line(chip, channel, level) => (5, chip, channel, level),
+            Event::Enable(level) => (6, 0, 0, level),
+            Event::Fall => (7, 0, 0, 0),
+            Event::Rise => (8, 0, 0, 0),
+        };
+        Numbered {
+            kind,
+            chip,
+            channel,
+            value,
         }
     }
 }
 
-impl Listed {
-    // What four numbers are.
-    pub fn of(kind: u8, chip: u8, channel: u8, value: u8) -> Listed
-        ensures { result ≡ listed kind chip channel value }
-    {
+// The event that four numbers are, if their kind is one of the eight.
+impl TryFrom<Numbered> for Event {
+    type Error = UnknownKind;
+
+    ghost try_from_gives = { λ n r. r ≡ listed n.kind n.chip n.channel n.value };
+
+    fn try_from(numbers: Numbered) -> Result<Event, UnknownKind> {
+        let Numbered {
+            kind,
+            chip,
+            channel,
+            value,
+        } = numbers;
         match kind {
-            1 => Listed::Known(Event::Command(chip, value)),
-            2 => Listed::Known(Event::Data(chip, value)),
-            3 => Listed::Known(Event::Status(chip)),
-            4 => Listed::Known(Event::Read(chip)),
-            5 => Listed::Known(Event::Line(chip, channel, value)),
-            6 => Listed::Known(Event::Enable(value)),
-            7 => Listed::Known(Event::Fall),
-            8 => Listed::Known(Event::Rise),
-            _ => Listed::Unknown,
+            1 => Ok(Event::Command(chip, value)),
+            2 => Ok(Event::Data(chip, value)),
+            3 => Ok(Event::Status(chip)),
+            4 => Ok(Event::Read(chip)),
+            5 => Ok(Event::Line(chip, channel, value)),
+            6 => Ok(Event::Enable(value)),
+            7 => Ok(Event::Fall),
+            8 => Ok(Event::Rise),
+            _ => Err(UnknownKind(kind)),
         }
     }
 }
@@ -119,5 +90,5 @@ impl Listed {
 pub fn next_number(number: u16) -> u16
     ensures { result ≡ next_number number }
 {
-    std::num::wrapping_add_u16(number, 1)
+    number.wrapping_add(1)
 }

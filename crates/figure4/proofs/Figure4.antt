@@ -1,5 +1,6 @@
 -- The codes in no row of Figure 4 are those that the paper lists, computed over all 256; how wide the numbers of a row are, and that one code alone gives the reset's row.
 -- Assumes nothing.
+use Rattle.std.specs.Prelude.{Ok, Err}
 use mathlib.Core.Bool.{Bool, true, false, not, cond, ◌&&◌, ◌||◌, false≢true}
 use mathlib.Core.Path.{◌≡◌, refl, ap, sym, ◌∙◌}
 use Prim.Native.Nat.{ℕ, ◌/◌, ◌%◌, ◌≤◌, ◌<◌}
@@ -13,8 +14,7 @@ use Rattle.figure4.specs.Figure4.{is_reset, load_read, all_or_one, row_in, figur
 use Rattle.figure4.specs.Undefined.{is_of_kind, is_undefined}
 use Rattle.figure4.specs.declared.Command.{Command}
 use Rattle.figure4.specs.declared.Command.TheVariants.{Reset, ClearIrrAndImr, ClearIrrAndImrBit, ClearImr, ClearImrBit, SetImr, SetImrBit, ClearIrr, ClearIrrBit, SetIrr, SetIrrBit, ClearHighestIsr, ClearIsr, ClearIsrBit, LoadMode, LoadRead, LoadReadAndArm, LoadReadAndDisarm, PreselectImr, PreselectAcr, PreselectLevel}
-use Rattle.figure4.specs.declared.Meaning.{Meaning}
-use Rattle.figure4.specs.declared.Meaning.TheVariants.{Row, Undefined}
+use Rattle.figure4.specs.Figure4.{Meaning}
 use Rattle.figure4.specs.declared.Undefined as kinds
 use Rattle.figure4.specs.declared.Undefined.TheVariants.{Codes01To0F, Codes1010xx11, CodesD0ToDF}
 
@@ -55,10 +55,10 @@ undefined_codes code = by (ltb code 256) refl
 
 -- each is told as what it is
 abbrev rightly : Meaning → ℕ → Bool
-rightly (Row row) code = true
-rightly (Undefined kind) code = is_of_kind kind code
+rightly (Ok row) code = true
+rightly (Err kind) code = is_of_kind kind code
 
-pub undefined_kind : (code : ℕ) (kind : kinds.Undefined) → code < 256 → figure4 code ≡ Undefined kind → is_of_kind kind code ≡ true
+pub undefined_kind : (code : ℕ) (kind : kinds.Undefined) → code < 256 → figure4 code ≡ Err kind → is_of_kind kind code ≡ true
 unfolding figure4
 undefined_kind code kind h e =
     ap (λ (m : Meaning). rightly m code) (sym e) ∙ tested 256 (λ code. rightly (figure4 code) code) (λ code. true) tt code h
@@ -122,14 +122,14 @@ level_row : (code : ℕ) → row_fits (PreselectLevel (code / 8 % 4) (code % 8))
 level_row code = simp (below (code / 8) 4 (lit< tt), one code)
 
 -- What holds of every row with numbers of these widths, and of the reset's for a code that is the reset's, holds of what the figure gives for any code.
-module _ (Q : Meaning → Bool) (none : (kind : kinds.Undefined) → Q (Undefined kind) ≡ true)
-    (each_row : (row : Command) → row_fits row ≡ true → is_reset_row row ≡ false → Q (Row row) ≡ true)
+module _ (Q : Meaning → Bool) (none : (kind : kinds.Undefined) → Q (Err kind) ≡ true)
+    (each_row : (row : Command) → row_fits row ≡ true → is_reset_row row ≡ false → Q (Ok row) ≡ true)
   where
     or_else : (b : Bool) (x y : Meaning) → (b ≡ true → Q x ≡ true) → Q y ≡ true → Q (cond b x y) ≡ true
     or_else b x y ex ey = either (λ (m : Meaning). Q m ≡ true) b x y ex (λ _. ey)
 
-    all_or_one_lem : (code : ℕ) (all one : Command) → Q (Row all) ≡ true → Q (Row one) ≡ true → Q (all_or_one code all one) ≡ true
-    all_or_one_lem code all one ea eo = or_else (bit code 3) (Row one) (Row all) (λ _. eo) ea
+    all_or_one_lem : (code : ℕ) (all one : Command) → Q (Ok all) ≡ true → Q (Ok one) ≡ true → Q (all_or_one code all one) ≡ true
+    all_or_one_lem code all one ea eo = or_else (bit code 3) (Ok one) (Ok all) (λ _. eo) ea
 
     load_read_lem : (m low : ℕ) → ltb m 4 ≡ true → Q (load_read m low) ≡ true
     load_read_lem m low e =
@@ -138,7 +138,7 @@ module _ (Q : Meaning → Bool) (none : (kind : kinds.Undefined) → Q (Undefine
         (or_else (eqb low 0b10) _ _ (λ _. each_row (LoadReadAndDisarm m) e refl)
         (none Codes1010xx11)))
 
-    in_figure : (high code : ℕ) → (is_reset code ≡ true → Q (Row Reset) ≡ true) → Q (row_in high code) ≡ true
+    in_figure : (high code : ℕ) → (is_reset code ≡ true → Q (Ok Reset) ≡ true) → Q (row_in high code) ≡ true
     in_figure high code reset =
         let single : ltb (code % 8) 8 ≡ true = one code in
         or_else (eqb high 0x0) _ _ (λ _. or_else (is_reset code) _ _ reset (none Codes01To0F))
@@ -157,32 +157,32 @@ module _ (Q : Meaning → Bool) (none : (kind : kinds.Undefined) → Q (Undefine
         (each_row (PreselectLevel (code / 8 % 4) (code % 8)) (level_row code) refl)))))))))))))
 
 abbrev fits : Meaning → Bool
-fits (Row row) = row_fits row
-fits (Undefined kind) = true
+fits (Ok row) = row_fits row
+fits (Err kind) = true
 
-pub row_fits_lem : (code : ℕ) (row : Command) → figure4 code ≡ Row row → row_fits row ≡ true
+pub row_fits_lem : (code : ℕ) (row : Command) → figure4 code ≡ Ok row → row_fits row ≡ true
 unfolding figure4
 row_fits_lem code row e = ap fits (sym e) ∙ in_figure fits (λ kind. refl) (λ row fit other. fit) (code / 16) code (λ _. refl)
 
 -- so a remainder by the width of a row's one number leaves it as it is
 pub row_narrow : (kind : ℕ → Command) (width : ℕ) → ((m : ℕ) → row_fits (kind m) ≡ ltb m width)
-    → (code m : ℕ) (row : Command) → figure4 code ≡ Row row → row ≡ kind m → m % width ≡ m
+    → (code m : ℕ) (row : Command) → figure4 code ≡ Ok row → row ≡ kind m → m % width ≡ m
 row_narrow kind width wide code m row e is =
     mod-eq_of_lt (ltb-true m width (sym (wide m) ∙ ap row_fits (sym is) ∙ row_fits_lem code row e))
 
 -- a preselected level is below 8, its count code below 4
-pub preselected : (code count level : ℕ) (row : Command) → figure4 code ≡ Row row → row ≡ PreselectLevel count level
+pub preselected : (code count level : ℕ) (row : Command) → figure4 code ≡ Ok row → row ≡ PreselectLevel count level
     → (count < 4) × (level < 8)
 preselected code count level row e is =
     let fit : ltb count 4 && ltb level 8 ≡ true = ap row_fits (sym is) ∙ row_fits_lem code row e in
     (ltb-true count 4 (both_left _ (ltb level 8) fit), ltb-true level 8 (both_right (ltb count 4) _ fit))
 
 abbrev is_no_reset : Meaning → Bool
-is_no_reset (Row row) = not (is_reset_row row)
-is_no_reset (Undefined kind) = true
+is_no_reset (Ok row) = not (is_reset_row row)
+is_no_reset (Err kind) = true
 
 -- no code but its own gives the reset's row
-pub no_reset : (code : ℕ) (row : Command) → figure4 code ≡ Row row → is_reset code ≡ false → is_reset_row row ≡ false
+pub no_reset : (code : ℕ) (row : Command) → figure4 code ≡ Ok row → is_reset code ≡ false → is_reset_row row ≡ false
 unfolding figure4
 no_reset code row e other =
     not-true (is_reset_row row)

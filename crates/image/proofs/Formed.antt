@@ -1,5 +1,6 @@
 -- The form of an image: bytes of the form are those that writing what was read gives again, and what was written is of the form.
 -- Assumes nothing.
+use Rattle.std.specs.Prelude.{Some, None}
 use mathlib.Core.Bool.{Bool, true, false, ◌&&◌, ◌||◌, false≢true}
 use mathlib.Core.List.{List, [], ◌∷◌, ◌++◌, append_assoc}
 use mathlib.Core.Path.{◌≡◌, refl, sym, ap, ap₂, ◌∙◌}
@@ -16,8 +17,7 @@ use Rattle.chip.specs.Fields.{zero_chip}
 use Rattle.chip.specs.declared.Chip.{Chip}
 use Rattle.chip.specs.declared.Destination.{Destination}
 use Rattle.chip.specs.declared.Destination.TheVariants.{Nowhere, Imr, Acr, Level}
-use Rattle.response.specs.declared.Response.{Response}
-use Rattle.response.specs.declared.Response.TheVariants.{Idle, UnderWay}
+use Rattle.response.specs.Held.{Response}
 use Rattle.image.specs.Layout.{destination_bytes, register_bytes, chip_record, response_bytes, head, records}
 use Rattle.image.specs.OneToOne.{WholeChip}
 use Rattle.image.specs.Reading.{byte, destination_in, chip_in, chips_in, response_in, chain_in, is_zero, response_form, destination_form, head_form, record_form}
@@ -62,7 +62,7 @@ unfolding response_in
 response_again b long is =
     let there : take 6 (drop 5 b) ≡ listed 5 6 b = take-listed b 5 6 (omega (arith, long)) in
     either (λ r. response_bytes r ≡ listed 5 6 b) (eqb (byte b 5) 1)
-    (UnderWay (record { chip = byte b 6; channel = byte b 7; level = byte b 8; length = byte b 9; delivered = byte b 10 })) Idle
+    (Some (record { chip = byte b 6; channel = byte b 7; level = byte b 8; length = byte b 9; delivered = byte b 10 })) None
     (λ one. ap (λ (v : ℕ). v ∷ byte b 6 ∷ byte b 7 ∷ byte b 8 ∷ byte b 9 ∷ byte b 10 ∷ []) (sym (eqb-true (byte b 5) 1 one)))
     (λ idle. sym (zero_is (listed 5 6 b) (other _ _ (ap response_form (sym there) ∙ is) idle)))
 
@@ -136,8 +136,8 @@ level_low high = le-leb (digit high) 1 (le_of_suc-le-suc (digit_lt high))
 pub head_formed : (count : ℕ) (enable iack : Bool) (low high : ℕ) (r : Response) (rest : List ℕ) → low < 256 →
     head_form (count ∷ digit enable ∷ digit iack ∷ low ∷ high ∷ (response_bytes r ++ replicate 5 0) ++ rest) ≡ true
 unfolding head_form
-head_formed count enable iack low high Idle rest below = simp (level_low enable, level_low iack, lt-ltb low 256 below)
-head_formed count enable iack low high (UnderWay r) rest below = simp (level_low enable, level_low iack, lt-ltb low 256 below)
+head_formed count enable iack low high None rest below = simp (level_low enable, level_low iack, lt-ltb low 256 below)
+head_formed count enable iack low high (Some r) rest below = simp (level_low enable, level_low iack, lt-ltb low 256 below)
 
 destination_formed : (d : Destination) (p q r t : List ℕ) →
     destination_form (take 3 (destination_bytes d ++ replicate 5 0 ++ p ++ q ++ r ++ t)) && is_zero (take 5 (drop 3 (destination_bytes d ++ replicate 5 0 ++ p ++ q ++ r ++ t)))

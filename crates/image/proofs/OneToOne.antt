@@ -14,7 +14,7 @@ use Rattle.bits.proofs.Below.{both_left, both_right, every_each, every-all}
 use Rattle.chip.specs.Fields.{zero_chip}
 use Rattle.chip.specs.declared.Chip.{Chip}
 use Rattle.chain.specs.declared.Chain.{Chain}
-use Rattle.response.specs.declared.Response.{Response}
+use Rattle.response.specs.Held.{Response}
 use Rattle.image.specs.Layout.{head, records, image_of}
 use Rattle.image.specs.OneToOne.{WholeChip, Whole, OneToOne}
 use Rattle.image.specs.Reading.{chip_in, chips_in, response_in, chain_in, head_form, record_form, records_form, is_image}

@@ -1,5 +1,6 @@
 -- Reading the pieces of an image gives what they were written from.
 -- Assumes nothing.
+use Rattle.std.specs.Prelude.{Some, None}
 use mathlib.Core.Bool.{Bool, true, false}
 use mathlib.Core.List.{List, [], ◌∷◌, ◌++◌, append_assoc}
 use mathlib.Core.Path.{◌≡◌, refl, ap, ap₂, ◌∙◌}
@@ -14,8 +15,7 @@ use Rattle.chip.specs.Fields.{zero_chip}
 use Rattle.chip.specs.declared.Chip.{Chip}
 use Rattle.chip.specs.declared.Destination.{Destination}
 use Rattle.chip.specs.declared.Destination.TheVariants.{Nowhere, Imr, Acr, Level}
-use Rattle.response.specs.declared.Response.{Response}
-use Rattle.response.specs.declared.Response.TheVariants.{Idle, UnderWay}
+use Rattle.response.specs.Held.{Response}
 use Rattle.image.specs.Layout.{destination_bytes, register_bytes, chip_record, response_bytes, records}
 use Rattle.image.specs.OneToOne.{WholeChip}
 use Rattle.image.specs.Reading.{byte, destination_in, chip_in, chips_in, response_in}
@@ -36,8 +36,8 @@ destination_back (Level level place) p q r t u = refl
 -- a response of an image whose head begins with these five bytes
 pub response_back : (a b c d e : ℕ) (r : Response) (p q : List ℕ) → response_in (a ∷ b ∷ c ∷ d ∷ e ∷ (response_bytes r ++ p) ++ q) ≡ r
 unfolding response_in
-response_back a b c d e Idle p q = refl
-response_back a b c d e (UnderWay r) p q = refl
+response_back a b c d e None p q = refl
+response_back a b c d e (Some r) p q = refl
 
 counts_back : (c : Chip) (rest : List ℕ) → WholeChip c → take 8 (drop 16 (chip_record c ++ rest)) ≡ c.counts
 unfolding chip_record

@@ -1,5 +1,6 @@
 -- The pieces of an image: their lengths, and how they are put one behind the other.
 -- Assumes nothing.
+use Rattle.std.specs.Prelude.{Some, None}
 use mathlib.Core.List.{List, [], ◌∷◌, ◌++◌, append-nil, append_assoc}
 use mathlib.Core.Path.{◌≡◌, refl, sym, ap, ap₂, ◌∙◌}
 use Prim.Native.Nat.{ℕ, zero, suc, ◌+◌, ◌*◌, ◌<◌, suc-le-suc}
@@ -13,8 +14,7 @@ use Rattle.chip.specs.declared.Chip.{Chip}
 use Rattle.chip.specs.declared.Destination.{Destination}
 use Rattle.chip.specs.declared.Destination.TheVariants.{Nowhere, Imr, Acr, Level}
 use Rattle.chain.specs.declared.Chain.{Chain}
-use Rattle.response.specs.declared.Response.{Response}
-use Rattle.response.specs.declared.Response.TheVariants.{Idle, UnderWay}
+use Rattle.response.specs.Held.{Response}
 use Rattle.image.specs.Layout.{destination_bytes, register_bytes, chip_record, response_bytes, head, records, over}
 use Rattle.image.specs.Reading.{chip_in, chips_in}
 use Rattle.image.specs.OneToOne.{WholeChip}
@@ -31,8 +31,8 @@ three (Level level place) rest = refl
 -- a response's bytes, one by one
 pub six : (r : Response) (rest : List ℕ) →
     get_or (response_bytes r) 0 0 ∷ get_or (response_bytes r) 1 0 ∷ get_or (response_bytes r) 2 0 ∷ get_or (response_bytes r) 3 0 ∷ get_or (response_bytes r) 4 0 ∷ get_or (response_bytes r) 5 0 ∷ rest ≡ response_bytes r ++ rest
-six Idle rest = refl
-six (UnderWay r) rest = refl
+six None rest = refl
+six (Some r) rest = refl
 
 destination_eight : (d : Destination) → length (destination_bytes d ++ replicate 5 0) ≡ 8
 destination_eight Nowhere = refl
@@ -44,8 +44,8 @@ pub registers_sixteen : (c : Chip) → length (register_bytes c) ≡ 16
 registers_sixteen c = ap (λ (n : ℕ). suc (suc (suc (suc (suc (suc (suc (suc n)))))))) (destination_eight c.destination)
 
 response_eleven : (r : Response) → length (response_bytes r ++ replicate 5 0) ≡ 11
-response_eleven Idle = refl
-response_eleven (UnderWay r) = refl
+response_eleven None = refl
+response_eleven (Some r) = refl
 
 pub head_sixteen : (s : Chain) → length (head s) ≡ 16
 unfolding head

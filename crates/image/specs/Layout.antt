@@ -1,12 +1,12 @@
 -- The chain image: a chain as 528 bytes. A head of 16, then the eight chip records of 64, chip 0 first.
+use Rattle.std.specs.Prelude.{Some, None}
 use Rattle.std.specs.Prelude.{List, [], ◌∷◌, ◌++◌, ℕ, ◌+◌, ◌/◌, ◌%◌, length, take, drop, replicate}
 use Rattle.bits.specs.Below.{digit}
 use Rattle.chip.specs.declared.Chip.{Chip}
 use Rattle.chip.specs.declared.Destination.{Destination}
 use Rattle.chip.specs.declared.Destination.TheVariants.{Nowhere, Imr, Acr, Level}
 use Rattle.chain.specs.declared.Chain.{Chain}
-use Rattle.response.specs.declared.Response.{Response}
-use Rattle.response.specs.declared.Response.TheVariants.{Idle, UnderWay}
+use Rattle.response.specs.Held.{Response}
 
 -- a destination: 0 none, 1 IMR, 2 ACR, 3 a level; then its level and its place, both 0 unless it is a level
 abbrev pub destination_bytes : Destination → List ℕ
@@ -26,8 +26,8 @@ chip_record c = register_bytes c ++ c.counts ++ replicate 8 0 ++ c.memory
 
 -- a response: 0 none, 1 under way; then its chip, channel, level, length and bytes delivered, all 0 if none
 abbrev pub response_bytes : Response → List ℕ
-response_bytes Idle = 0 ∷ 0 ∷ 0 ∷ 0 ∷ 0 ∷ 0 ∷ []
-response_bytes (UnderWay r) = 1 ∷ r.chip ∷ r.channel ∷ r.level ∷ r.length ∷ r.delivered ∷ []
+response_bytes None = 0 ∷ 0 ∷ 0 ∷ 0 ∷ 0 ∷ 0 ∷ []
+response_bytes (Some r) = 1 ∷ r.chip ∷ r.channel ∷ r.level ∷ r.length ∷ r.delivered ∷ []
 
 -- the head: count, Enable In, IACK, the event number with its low byte first, the response; 11 to 15 are zero
 unfoldable pub head : Chain → List ℕ

@@ -1,12 +1,12 @@
 -- The chain in an image, and which bytes are an image.
+use Rattle.std.specs.Prelude.{Some, None}
 use Rattle.std.specs.Prelude.{Bool, true, cond, ◌&&◌, ◌||◌, List, [], ◌∷◌, ℕ, zero, suc, ◌+◌, ◌*◌, eqb, leb, ltb, length, get_or, take, drop}
 use Rattle.bits.specs.Below.{every}
 use Rattle.chip.specs.declared.Chip.{Chip}
 use Rattle.chip.specs.declared.Destination.{Destination}
 use Rattle.chip.specs.declared.Destination.TheVariants.{Nowhere, Imr, Acr, Level}
 use Rattle.chain.specs.declared.Chain.{Chain}
-use Rattle.response.specs.declared.Response.{Response}
-use Rattle.response.specs.declared.Response.TheVariants.{Idle, UnderWay}
+use Rattle.response.specs.Held.{Response}
 
 -- byte n
 abbrev pub byte : List ℕ → ℕ → ℕ
@@ -41,8 +41,8 @@ chips_in (suc n) b = chip_in b ∷ chips_in n (drop 64 b)
 unfoldable pub response_in : List ℕ → Response
 response_in b =
     cond (eqb (byte b 5) 1)
-    (UnderWay (record { chip = byte b 6; channel = byte b 7; level = byte b 8; length = byte b 9; delivered = byte b 10 }))
-    Idle
+    (Some (record { chip = byte b 6; channel = byte b 7; level = byte b 8; length = byte b 9; delivered = byte b 10 }))
+    None
 
 unfoldable pub chain_in : List ℕ → Chain
 chain_in b =

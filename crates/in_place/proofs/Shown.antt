@@ -1,6 +1,7 @@
 -- What an event on an image is shown is enough: its verdict is that over what the chain shows, and where it is accepted so is what is decided, and a chip that is
 -- replaced is one of the eight.
 -- Assumes nothing.
+use Rattle.std.specs.Prelude.{Some, None, Ok, Err}
 use mathlib.Core.Bool.{Bool, true, false}
 use mathlib.Core.Path.{◌≡◌, refl, ap, sym, subst, ◌∙◌}
 use Prim.Native.Nat.{ℕ, ◌≤◌, ◌<◌, ◌%◌}
@@ -9,14 +10,12 @@ use lib.Dec.{leb, ltb, eqb}
 use borrow.Author.Tests.{le-leb, le-ltb, ltb-true, ltb-false}
 use Rattle.bits.proofs.Below.{either}
 use Rattle.refusal.specs.declared.Refusal.{Refusal}
-use Rattle.refusal.specs.declared.Verdict.TheVariants.{Accepted, Refused}
 use Rattle.event.specs.Numbers.{in_numbers}
 use Rattle.event.specs.declared.Event.{Event}
 use Rattle.event.specs.declared.Event.TheVariants.{Command, Data, Status, Read, Line, Enable, Fall, Rise}
 use Rattle.response.specs.Held.{ends_response}
 use Rattle.response.specs.declared.Reply.{Reply}
-use Rattle.response.specs.declared.Response.{Response}
-use Rattle.response.specs.declared.Response.TheVariants.{Idle, UnderWay}
+use Rattle.response.specs.Held.{Response}
 use Rattle.decide.proofs.Passed.{passed_names}
 use Rattle.decide.proofs.Rules.{changes, decisions}
 use Rattle.decide.specs.Change.{nothing, setting}
@@ -40,20 +39,20 @@ use Rattle.parts.specs.Round.{seen_round, shown_to}
 -- an event is told and does the same by what it is shown, v, and by what there is to see, w
 pub record Enough (e : Event) (v w : Seen) : Type 0 where
   pub verdict : verdict_on e v ≡ verdict_on e w
-  pub change : verdict_on e v ≡ Accepted → decided e v ≡ decided e w
-  pub at : verdict_on e v ≡ Accepted → (decided e v).at < 8
+  pub change : verdict_on e v ≡ Ok tt → decided e v ≡ decided e w
+  pub at : verdict_on e v ≡ Ok tt → (decided e v).at < 8
   pub sound_seen : seen_sound v ≡ true
 
 -- the chip that is replaced is the one that is looked at
 first_at : (found : Response) (v : Seen) → v.at < 8 → (first_pulse found v).at < 8
 unfolding decisions
-first_at Idle v h = omega arith
-first_at (UnderWay r) v h = h
+first_at None v h = omega arith
+first_at (Some r) v h = h
 
 fallen_at : (response : Response) (v : Seen) → v.at < 8 → (fallen response v).at < 8
 unfolding decisions
-fallen_at Idle v h = first_at (selected_by v) v h
-fallen_at (UnderWay r) v h = omega arith
+fallen_at None v h = first_at (selected_by v) v h
+fallen_at (Some r) v h = omega arith
 
 after_at : (last : Bool) (r : Reply) (v : Seen) → v.at < 8 → (risen_after last r v).at < 8
 unfolding decisions
@@ -62,8 +61,8 @@ after_at false r v h = omega arith
 
 risen_at : (response : Response) (v : Seen) → v.at < 8 → (risen response v).at < 8
 unfolding decisions
-risen_at Idle v h = omega arith
-risen_at (UnderWay r) v h = after_at (eqb r.delivered r.length) r v h
+risen_at None v h = omega arith
+risen_at (Some r) v h = after_at (eqb r.delivered r.length) r v h
 
 decided_at : (e : Event) (v : Seen) → v.at < 8 → (decided e v).at < 8
 unfolding changes decided
@@ -102,14 +101,14 @@ no_such_chip_lem : (e : Event) (s : Chain) → leb (in_numbers e).kind 5 ≡ tru
     → Enough e (shown_to e s) (seen_by e s)
 unfolding seen_round
 no_such_chip_lem e s named here past same =
-    let none : verdict_on e (shown_to e s) ≡ Accepted → ⊥ = λ ok. omega (arith, passed_names e (shown_to e s) named ok, past, count_le s here) in
+    let none : verdict_on e (shown_to e s) ≡ Ok tt → ⊥ = λ ok. omega (arith, passed_names e (shown_to e s) named ok, past, count_le s here) in
     record { verdict = same; change = λ ok. absurd (none ok); at = λ ok. absurd (none ok); sound_seen = past-sound s _ _ here past }
 
-fall_stalls : (v : Seen) → v.response ≡ Idle → v.count ≤ v.at → decided Fall v ≡ setting v.enable false Idle nothing
+fall_stalls : (v : Seen) → v.response ≡ None → v.count ≤ v.at → decided Fall v ≡ setting v.enable false None nothing
 unfolding decided fallen selected_by first_pulse
 fall_stalls v is past = simp (is, le-ltb v.at v.count past)
 
-rise_idles : (v : Seen) → v.response ≡ Idle → decided Rise v ≡ setting v.enable true Idle nothing
+rise_idles : (v : Seen) → v.response ≡ None → decided Rise v ≡ setting v.enable true None nothing
 unfolding decided risen
 rise_idles v is = simp is
 
@@ -130,7 +129,7 @@ past_enough (Enable level) s here past = enable_enough level s here past
 past_enough Fall s here past = by s.response refl
   where
     by : (response : Response) → s.response ≡ response → Enough Fall (shown_to Fall s) (seen_by Fall s)
-    by Idle is =
+    by None is =
         let over : s.count ≤ looked_at (look_of Fall s.response) s = omega (arith, past, count_le s here) in
         let stalls = fall_stalls (shown_to Fall s) is over in
         record {
@@ -139,13 +138,13 @@ past_enough Fall s here past = by s.response refl
           at = λ ok. rw stalls (omega arith);
           sound_seen = past-sound s _ _ here past;
         }
-    by (UnderWay r) is =
+    by (Some r) is =
         let at : looked_at (look_of Fall s.response) s ≡ r.chip = ap (λ (response : Response). looked_at (unless_responding Answering response) s) is in
         absurd (omega (arith, past, at, (under_way_parts s r here is).chip, count_le s here))
 past_enough Rise s here past = by s.response refl
   where
     by : (response : Response) → s.response ≡ response → Enough Rise (shown_to Rise s) (seen_by Rise s)
-    by Idle is =
+    by None is =
         let idles = rise_idles (shown_to Rise s) is in
         record {
           verdict = refl;
@@ -153,7 +152,7 @@ past_enough Rise s here past = by s.response refl
           at = λ ok. rw idles (omega arith);
           sound_seen = past-sound s _ _ here past;
         }
-    by (UnderWay r) is =
+    by (Some r) is =
         let at : looked_at (look_of Rise s.response) s ≡ r.chip = ap (λ (response : Response). looked_at (unless_responding Nowhere response) s) is in
         absurd (omega (arith, past, at, (under_way_parts s r here is).chip, count_le s here))
 
@@ -167,18 +166,18 @@ enough e s v is here =
     by false t = past_enough e s here (ltb-false _ _ t)
 
 -- so what it decides by that is what it hands back
-pub does : (e : Event) (s : Chain) (v : Seen) (c : Change) → v ≡ shown_to e s → sound s ≡ true → verdict_on e v ≡ Accepted → c ≡ decided e v → accepted c s ≡ event_of e s
+pub does : (e : Event) (s : Chain) (v : Seen) (c : Change) → v ≡ shown_to e s → sound s ≡ true → verdict_on e v ≡ Ok tt → c ≡ decided e v → accepted c s ≡ event_of e s
 does e s v c is here told by =
     let v-enough = enough e s v is here in
     ap (λ (c : Change). accepted c s) (by ∙ v-enough.change told) ∙ sym (is_accepted_lem e s (seen_by e s) refl here (sym v-enough.verdict ∙ told))
 
-pub lands : (e : Event) (s : Chain) (v : Seen) (c : Change) → v ≡ shown_to e s → sound s ≡ true → verdict_on e v ≡ Accepted → c ≡ decided e v → c.at < 8
+pub lands : (e : Event) (s : Chain) (v : Seen) (c : Change) → v ≡ shown_to e s → sound s ≡ true → verdict_on e v ≡ Ok tt → c ≡ decided e v → c.at < 8
 lands e s v c is here told by = subst (λ (c : Change). c.at < 8) (sym by) ((enough e s v is here).at told)
 
-pub declines : (e : Event) (s : Chain) (v : Seen) (why : Refusal) → v ≡ shown_to e s → sound s ≡ true → verdict_on e v ≡ Refused why → refused why s ≡ event_of e s
+pub declines : (e : Event) (s : Chain) (v : Seen) (why : Refusal) → v ≡ shown_to e s → sound s ≡ true → verdict_on e v ≡ Err why → refused why s ≡ event_of e s
 declines e s v why is here told = sym (is_refused e s (seen_by e s) why refl here (sym (enough e s v is here).verdict ∙ told))
 
 -- a pulse looks at no Enable In
 pub no_ei : (look : Look) (response : Response) (s : Chain) → looked_ei look s ≡ false → looked_ei (unless_responding look response) s ≡ false
-no_ei look Idle s e = e
-no_ei look (UnderWay r) s e = refl
+no_ei look None s e = e
+no_ei look (Some r) s e = refl

@@ -4,7 +4,7 @@ use Rattle.std.specs.Prelude.{Bool, List, ℕ}
 use contract.Lifetimes.{Lfts}
 use Rattle.std.specs.Borrow.{Bor, MutBor}
 use Rattle.event.specs.declared.Numbered.{Numbered}
-use Rattle.refusal.specs.declared.Answer.{Answer}
+use Rattle.refusal.specs.Numbers.{Answer}
 use Rattle.chain.specs.declared.Chain.{Chain}
 use Rattle.text.specs.Written.{written}
 use Rattle.steps.proofs.line.step_of.Reads as step_of_outcome

@@ -1,5 +1,6 @@
 -- The same of every other function of the model that another crate can see and that takes every input: the parts of which the calls are made. How to read a field:
 -- `Outcomes`. Those that ask for something are listed, each with its ground, in docs/PROMISES.md; the gate sees that every function is in one of the two places.
+use Rattle.std.specs.Prelude.{Option}
 use Rattle.std.specs.Prelude.{Bool, not, List, [], ◌∷◌, ℕ, ◌+◌, ◌*◌}
 use contract.Lifetimes.{Lfts}
 use Rattle.std.specs.Borrow.{Bor}
@@ -19,12 +20,11 @@ use Rattle.search.proofs.candidate_of.Reads as candidate_of_outcome
 use Rattle.search.proofs.clear_highest.Reads as clear_highest_outcome
 use Rattle.search.specs.Candidate.{candidate, candidate_number, channel_of, exists}
 use Rattle.search.specs.Clear.{clear_highest}
-use Rattle.search.specs.declared.Candidate.{Candidate}
 use Rattle.figure4.proofs.Meaning.is_reset.Reads as is_reset_outcome
 use Rattle.figure4.proofs.Meaning.is_undefined.Reads as is_undefined_outcome
 use Rattle.figure4.proofs.Meaning.of.Reads as meaning_of_outcome
 use Rattle.figure4.specs.Figure4.{figure4, is_reset, undefined}
-use Rattle.figure4.specs.declared.Meaning.{Meaning}
+use Rattle.figure4.specs.Figure4.{Meaning}
 use Rattle.chip.proofs.Chip.candidate.Reads as chip_candidate
 use Rattle.chip.proofs.Chip.commanded.Reads as chip_commanded
 use Rattle.chip.proofs.Chip.fall.Reads as chip_fall
@@ -68,7 +68,7 @@ use Rattle.response.proofs.Walk.at_first.Reads as walk_at_first
 use Rattle.response.specs.Held.{ends_response, is_idle}
 use Rattle.response.specs.Sound.{response_sound}
 use Rattle.response.specs.Walk.{eo_of}
-use Rattle.response.specs.declared.Response.{Response}
+use Rattle.response.specs.Held.{Response}
 use Rattle.decide.proofs.Look.of.Reads as look_of_outcome
 use Rattle.decide.proofs.Seen.command.Reads as seen_command
 use Rattle.decide.proofs.Seen.enable.Reads as seen_enable
@@ -120,9 +120,9 @@ pub record OnePart : Type 0 where
   pub candidate_of_outcome : (irr imr isr mode pointer : ℕ)
       → Determined candidate_of_outcome.Asked candidate_of_outcome.Post tt (irr, (imr, (isr, (mode, (pointer, tt))))) (candidate irr imr isr mode pointer)
   pub clear_highest_outcome : (isr mode pointer : ℕ) → Determined clear_highest_outcome.Asked clear_highest_outcome.Post tt (isr, (mode, (pointer, tt))) (clear_highest isr mode pointer)
-  pub candidate_exists : (c : Candidate) → Determined candidate_exists.Asked candidate_exists.Post tt (c, tt) (exists c)
-  pub candidate_channel : (c : Candidate) → Determined candidate_channel.Asked candidate_channel.Post tt (c, tt) (channel_of c)
-  pub candidate_number_outcome : (c : Candidate) → Determined candidate_number_outcome.Asked candidate_number_outcome.Post tt (c, tt) (candidate_number c)
+  pub candidate_exists : (c : Option ℕ) → Determined candidate_exists.Asked candidate_exists.Post tt (c, tt) (exists c)
+  pub candidate_channel : (c : Option ℕ) → Determined candidate_channel.Asked candidate_channel.Post tt (c, tt) (channel_of c)
+  pub candidate_number_outcome : (c : Option ℕ) → Determined candidate_number_outcome.Asked candidate_number_outcome.Post tt (c, tt) (candidate_number c)
   -- figure4: what any code means
   pub meaning_of_outcome : (code : ℕ) → Determined meaning_of_outcome.Asked meaning_of_outcome.Post tt (code, tt) (figure4 code)
   pub is_reset_outcome : (code : ℕ) → Determined is_reset_outcome.Asked is_reset_outcome.Post tt (code, tt) (is_reset code)

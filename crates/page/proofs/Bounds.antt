@@ -1,5 +1,6 @@
 -- How long a page may be.
 -- Assumes nothing.
+use Rattle.std.specs.Prelude.{Some, None, Ok, Err}
 use mathlib.Core.Bool.{Bool, true, false, cond}
 use mathlib.Core.List.{List, []}
 use mathlib.Core.Path.{◌≡◌, refl, ◌∙◌}
@@ -9,8 +10,7 @@ use lib.Dec.{eqb}
 use lib.ListN.{length, length-append}
 use Rattle.chain.proofs.Soundness.{count_le}
 use Rattle.chain.specs.Sound.{sound}
-use Rattle.refusal.specs.declared.Answer.{Answer}
-use Rattle.refusal.specs.declared.Answer.TheVariants.{Done, Byte, Refused}
+use Rattle.refusal.specs.Numbers.{Answer}
 use Rattle.chain.specs.declared.Chain.{Chain}
 use Rattle.page.specs.Page.{gint_field, heading, chip_pins, chain_pins, pins_parts, request_bytes, state_fields, registers_parts, pins_line, registers_line, chip_lines, chips_from, byte_text, event_parts, page_of}
 use Rattle.refusal.specs.Numbers.{is_accepted}
@@ -94,9 +94,9 @@ chips_all s = either (sound s) refl
     either false is = omega (arith, no_lines s.count 0 s is)
 
 answer_le : (answer : Answer) → length (byte_text answer) ≤ 32
-answer_le Done = omega arith
-answer_le (Byte b) = byte_le " byte " b (omega arith)
-answer_le (Refused why) = omega arith
+answer_le (Ok None) = omega arith
+answer_le (Ok (Some b)) = byte_le " byte " b (omega arith)
+answer_le (Err why) = omega arith
 
 -- a page
 pub page_le : (line : ℕ) (step : Numbered) (answer : Answer) (s : Chain) → length (page_of line step answer s) ≤ 10000

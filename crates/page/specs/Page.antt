@@ -1,8 +1,8 @@
 -- What a page says of a state: the event with its step, and for each chip in the count its pins and its registers, with one event number.
+use Rattle.std.specs.Prelude.{Some, None, Ok, Err}
 use Rattle.std.specs.Prelude.{cond, List, [], ◌∷◌, ◌++◌, ℕ, zero, suc, ◌+◌, eqb}
 use Rattle.refusal.specs.Numbers.{is_accepted}
-use Rattle.refusal.specs.declared.Answer.{Answer}
-use Rattle.refusal.specs.declared.Answer.TheVariants.{Done, Byte, Refused}
+use Rattle.refusal.specs.Numbers.{Answer}
 use Rattle.chain.specs.declared.Chain.{Chain}
 use Rattle.event.specs.declared.Numbered.{Numbered}
 use Rattle.steps.specs.Spelled.{spelled}
@@ -58,9 +58,9 @@ chips_from (suc more) i s = chip_lines i s ++ chips_from more (i + 1) s
 
 -- event N at L STEP accepted, and the byte where one was driven or read
 abbrev pub byte_text : Answer → List ℕ
-byte_text Done = []
-byte_text (Byte b) = byte_field " byte " b
-byte_text (Refused why) = []
+byte_text (Ok None) = []
+byte_text (Ok (Some b)) = byte_field " byte " b
+byte_text (Err why) = []
 
 abbrev pub event_parts : ℕ → Numbered → Answer → ℕ → List (List ℕ)
 event_parts line step answer event =

@@ -1,5 +1,6 @@
 -- An image with one part replaced is the image of the chain with that part replaced.
 -- Assumes nothing.
+use Rattle.std.specs.Prelude.{Some, None}
 use mathlib.Core.Bool.{Bool, true}
 use mathlib.Core.List.{List, [], ◌∷◌, ◌++◌, append_assoc}
 use mathlib.Core.Path.{◌≡◌, refl, sym, ap, ap₂, subst, ◌∙◌}
@@ -13,8 +14,7 @@ use Rattle.chip.specs.Fields.{zero_chip}
 use Rattle.chip.specs.declared.Chip.{Chip}
 use Rattle.chain.specs.Fields.{with_chips, with_chip, with_own, with_event}
 use Rattle.chain.specs.declared.Chain.{Chain}
-use Rattle.response.specs.declared.Response.{Response}
-use Rattle.response.specs.declared.Response.TheVariants.{Idle, UnderWay}
+use Rattle.response.specs.Held.{Response}
 use Rattle.image.specs.Layout.{chip_record, response_bytes, head, records, image_of, over}
 use Rattle.image.specs.OneToOne.{WholeChip, Whole}
 use Rattle.image.specs.Reading.{chain_in, is_image}
@@ -73,10 +73,10 @@ event_set b event is =
 
 response_over : (a b c d e : ℕ) (old new : Response) (p q : List ℕ) →
     over (a ∷ b ∷ c ∷ d ∷ e ∷ (response_bytes old ++ p) ++ q) 5 (response_bytes new) ≡ a ∷ b ∷ c ∷ d ∷ e ∷ (response_bytes new ++ p) ++ q
-response_over a b c d e Idle Idle p q = refl
-response_over a b c d e Idle (UnderWay r) p q = refl
-response_over a b c d e (UnderWay r) Idle p q = refl
-response_over a b c d e (UnderWay r) (UnderWay t) p q = refl
+response_over a b c d e None None p q = refl
+response_over a b c d e None (Some r) p q = refl
+response_over a b c d e (Some r) None p q = refl
+response_over a b c d e (Some r) (Some t) p q = refl
 
 -- an image with a response, Enable In and IACK written into it
 abbrev own_over : List ℕ → Bool → Bool → Response → List ℕ

@@ -1,10 +1,10 @@
 -- How much a line may print.
 -- Assumes nothing.
+use Rattle.std.specs.Prelude.{Ok, Err}
 use Rattle.std.proofs.Common.{ℕ, ◌≤◌, Bool, true, false, cond, List, [], ◌++◌, length, arith, length-append}
 use Rattle.refusal.specs.Answers.{verdict_in}
-use Rattle.refusal.specs.declared.Answer.{Answer}
-use Rattle.refusal.specs.declared.Verdict.{Verdict}
-use Rattle.refusal.specs.declared.Verdict.TheVariants.{Accepted, Refused}
+use Rattle.refusal.specs.Numbers.{Answer}
+use Rattle.refusal.specs.Numbers.{Verdict}
 use Rattle.chain.specs.declared.Chain.{Chain}
 use Rattle.messages.proofs.Bounds.{refused_le, malformed_le}
 use Rattle.page.proofs.Bounds.{page_le}
@@ -17,8 +17,8 @@ use Rattle.steps.specs.declared.Step.{Step}
 use Rattle.steps.specs.declared.Step.TheVariants.{Nothing, Start, Happens, Malformed}
 
 by_le : (v : Verdict) (step : Numbered) (answer : Answer) (s : Chain) (r : Report) → length (by_verdict v step answer s r).print ≤ 10000
-by_le Accepted step answer s r = page_le r.line step answer s
-by_le (Refused why) step answer s r = omega (arith, refused_le r.line step why)
+by_le (Ok tt) step answer s r = page_le r.line step answer s
+by_le (Err why) step answer s r = omega (arith, refused_le r.line step why)
 
 step_le : (step : Numbered) (answer : Answer) (s : Chain) (r : Report) → length (step_reply step answer s r).print ≤ 10000
 unfolding step_reply

@@ -1,12 +1,12 @@
 -- A report of an event list: what each line prints, and what the whole list does.
+use Rattle.std.specs.Prelude.{Ok, Err}
 use Rattle.std.specs.Prelude.{◌≡◌, ℕ, ◌+◌, ◌%◌, ◌^◌, Bool, true, false, cond, List, [], ◌∷◌, ◌++◌, ◌==◌}
 use Rattle.chain.specs.Events.{event_of}
 use Rattle.chain.specs.Fields.{zero_chain}
 use Rattle.chain.specs.Start.{start_of}
 use Rattle.refusal.specs.Answers.{verdict_in}
-use Rattle.refusal.specs.declared.Answer.{Answer}
-use Rattle.refusal.specs.declared.Verdict.{Verdict}
-use Rattle.refusal.specs.declared.Verdict.TheVariants.{Accepted, Refused}
+use Rattle.refusal.specs.Numbers.{Answer}
+use Rattle.refusal.specs.Numbers.{Verdict}
 use Rattle.chain.specs.declared.Chain.{Chain}
 use Rattle.event.specs.Numbers.{numbered, in_numbers}
 use Rattle.event.specs.declared.Numbered.{Numbered}
@@ -57,8 +57,8 @@ ends course print r = record { print = print; report = r; course = course }
 
 -- an accepted step prints its page, a refused one its refusal
 abbrev pub by_verdict : Verdict → Numbered → Answer → Chain → Report → Reply
-by_verdict Accepted step answer s r = goes_on (page_of r.line step answer s) true s r
-by_verdict (Refused why) step answer s r = ends Stopped (refused_line r.line step why) r
+by_verdict (Ok tt) step answer s r = goes_on (page_of r.line step answer s) true s r
+by_verdict (Err why) step answer s r = ends Stopped (refused_line r.line step why) r
 
 unfoldable pub step_reply : Numbered → Answer → Chain → Report → Reply
 step_reply step answer s r = by_verdict (verdict_in answer) step answer s r

@@ -1,5 +1,6 @@
 -- What the record of a sound response says of each of its parts, and how a response stays sound.
 -- Assumes nothing.
+use Rattle.std.specs.Prelude.{Some}
 use mathlib.Core.Bool.{Bool, true, false, cond, ◌&&◌}
 use mathlib.Core.Path.{◌≡◌}
 use Prim.Native.Nat.{ℕ, ◌+◌, ◌≤◌, ◌<◌}
@@ -17,7 +18,6 @@ use Rattle.chip.specs.declared.Chip.{Chip}
 use Rattle.response.specs.Held.{reply_of, one_more}
 use Rattle.response.specs.Sound.{delivered_sound, response_sound}
 use Rattle.response.specs.declared.Reply.{Reply}
-use Rattle.response.specs.declared.Response.TheVariants.{UnderWay}
 
 -- the parts of a sound response
 pub record SoundReply (count : ℕ) (r : Reply) : Type 0 where
@@ -27,7 +27,7 @@ pub record SoundReply (count : ℕ) (r : Reply) : Type 0 where
   pub at_least_one : 1 ≤ r.length
   pub at_most_four : r.length ≤ 4
 
-pub reply_parts : (count : ℕ) (iack : Bool) (r : Reply) → response_sound count iack (UnderWay r) ≡ true → SoundReply count r
+pub reply_parts : (count : ℕ) (iack : Bool) (r : Reply) → response_sound count iack (Some r) ≡ true → SoundReply count r
 reply_parts count iack r e =
     let to-length = both_left (ltb r.chip count && leb r.channel 7 && leb r.level 7 && leb 1 r.length && leb r.length 4) _ e in
     let to_one = both_left (ltb r.chip count && leb r.channel 7 && leb r.level 7 && leb 1 r.length) _ to-length in
@@ -41,11 +41,11 @@ reply_parts count iack r e =
       at_most_four = leb-true _ 4 (both_right (ltb r.chip count && leb r.channel 7 && leb r.level 7 && leb 1 r.length) _ to-length);
     }
 
-pub reply_delivered : (count : ℕ) (iack : Bool) (r : Reply) → response_sound count iack (UnderWay r) ≡ true → delivered_sound iack r ≡ true
+pub reply_delivered : (count : ℕ) (iack : Bool) (r : Reply) → response_sound count iack (Some r) ≡ true → delivered_sound iack r ≡ true
 reply_delivered count iack r e =
     both_right (ltb r.chip count && leb r.channel 7 && leb r.level 7 && leb 1 r.length && leb r.length 4) _ e
 
-pub reply_whole : (count : ℕ) (iack : Bool) (r : Reply) → SoundReply count r → delivered_sound iack r ≡ true → response_sound count iack (UnderWay r) ≡ true
+pub reply_whole : (count : ℕ) (iack : Bool) (r : Reply) → SoundReply count r → delivered_sound iack r ≡ true → response_sound count iack (Some r) ≡ true
 reply_whole count iack r p d =
     simp (lt-ltb _ _ p.chip, le-leb _ _ p.channel, le-leb _ _ p.level, le-leb _ _ p.at_least_one, le-leb _ _ p.at_most_four, d)
 
@@ -71,7 +71,7 @@ reply_of-sound count i c e h =
     }
 
 -- a response with one byte more, IACK low
-pub one_more_lem : (count : ℕ) (r : Reply) → SoundReply count r → r.delivered < r.length → response_sound count false (UnderWay (one_more r)) ≡ true
+pub one_more_lem : (count : ℕ) (r : Reply) → SoundReply count r → r.delivered < r.length → response_sound count false (Some (one_more r)) ≡ true
 one_more_lem count r p next =
     reply_whole count false (one_more r)
     record { chip = p.chip; channel = p.channel; level = p.level; at_least_one = p.at_least_one; at_most_four = p.at_most_four }

@@ -1,4 +1,5 @@
 -- What is held of a response (the rules paper, "A chip" and events 1, 7 and 8).
+use Rattle.std.specs.Prelude.{Some, None}
 use Rattle.std.specs.Prelude.{Bool, true, false, ◌&&◌, ℕ, ◌+◌, eqb}
 use Rattle.search.specs.Candidate.{channel_of}
 use Rattle.chip.specs.Acknowledge.{response_level, response_length}
@@ -6,8 +7,7 @@ use Rattle.figure4.specs.Figure4.{is_reset}
 use Rattle.chip.specs.Status.{candidate_of}
 use Rattle.chip.specs.declared.Chip.{Chip}
 use Rattle.response.specs.declared.Reply.{Reply}
-use Rattle.response.specs.declared.Response.{Response}
-use Rattle.response.specs.declared.Response.TheVariants.{Idle, UnderWay}
+
 
 -- the response of chip i for its candidate, before its first byte: level and length are held from here on
 abbrev pub reply_of : ℕ → Chip → Reply
@@ -21,13 +21,13 @@ one_more r = record { chip = r.chip; channel = r.channel; level = r.level; lengt
 
 -- no response is under way
 abbrev pub is_idle : Response → Bool
-is_idle Idle = true
-is_idle (UnderWay r) = false
+is_idle None = true
+is_idle (Some r) = false
 
 -- chip i is responding
 abbrev pub is_responding : Response → ℕ → Bool
-is_responding Idle i = false
-is_responding (UnderWay r) i = eqb r.chip i
+is_responding None i = false
+is_responding (Some r) i = eqb r.chip i
 
 -- a reset of chip i ends a response of that chip (D)
 abbrev pub ends_response : ℕ → ℕ → Response → Bool

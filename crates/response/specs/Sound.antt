@@ -1,8 +1,8 @@
 -- When the record of a response is sound (the rules paper, "A chip").
+use Rattle.std.specs.Prelude.{Some, None}
 use Rattle.std.specs.Prelude.{Bool, true, cond, ◌&&◌, ℕ, leb, ltb}
 use Rattle.response.specs.declared.Reply.{Reply}
-use Rattle.response.specs.declared.Response.{Response}
-use Rattle.response.specs.declared.Response.TheVariants.{Idle, UnderWay}
+use Rattle.response.specs.Held.{Response}
 
 -- at least 1 byte delivered, at most the length with IACK low, fewer with IACK high
 abbrev pub delivered_sound : Bool → Reply → Bool
@@ -10,6 +10,6 @@ delivered_sound iack r = leb 1 r.delivered && cond iack (ltb r.delivered r.lengt
 
 -- a response names a chip in the count, channel and level at most 7, and has a length of 1 to 4
 abbrev pub response_sound : ℕ → Bool → Response → Bool
-response_sound count iack Idle = true
-response_sound count iack (UnderWay r) =
+response_sound count iack None = true
+response_sound count iack (Some r) =
     ltb r.chip count && leb r.channel 7 && leb r.level 7 && leb 1 r.length && leb r.length 4 && delivered_sound iack r

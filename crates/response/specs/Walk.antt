@@ -3,7 +3,7 @@ use Rattle.std.specs.Prelude.{Bool, not, cond, ◌&&◌, ℕ, ◌+◌, ltb}
 use Rattle.chip.specs.Status.{is_armed, gint_active}
 use Rattle.chip.specs.declared.Chip.{Chip}
 use Rattle.response.specs.Held.{is_responding}
-use Rattle.response.specs.declared.Response.{Response}
+use Rattle.response.specs.Held.{Response}
 use Rattle.response.specs.declared.Walk.{Walk}
 
 -- EO of chip i at a level of its EI: low if EI is low, if M7 is clear, even when polled (D), or if the chip is responding; else high

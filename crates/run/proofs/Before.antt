@@ -10,7 +10,7 @@ use borrow.Author.Tests.{not-false, ltb-false}
 use Rattle.refusal.proofs.Numbers.{passed_first, passed_rest, accepted_is}
 use Rattle.refusal.specs.Numbers.{is_accepted}
 use Rattle.refusal.specs.declared.Refusal.TheVariants.{NotSound, BrokenEvent, ShortResults}
-use Rattle.refusal.specs.declared.Verdict.{Verdict}
+use Rattle.refusal.specs.Numbers.{Verdict}
 use Rattle.chain.specs.Sound.{sound}
 use Rattle.chain.specs.declared.Chain.{Chain}
 use Rattle.run.specs.Run.{list_length, broken_event, short_results, before_any, stopped, run_from, run_of}

@@ -1,14 +1,14 @@
 -- One event of a run: with at least one left it goes on after an accepted event and stops at a refusal, and a sound chain stays sound.
 -- And so what holds of a run of any length.
 -- Assumes nothing.
+use Rattle.std.specs.Prelude.{Ok, Err}
 use mathlib.Core.Bool.{Bool, true, false, cond}
 use mathlib.Core.List.{List}
 use mathlib.Core.Path.{◌≡◌, refl, ap, sym, ◌∙◌}
 use Prim.Native.Nat.{ℕ, zero, suc, ◌+◌, ◌*◌}
 use lib.ListN.{length, set, length-set}
 use Rattle.refusal.specs.Numbers.{is_accepted}
-use Rattle.refusal.specs.declared.Verdict.{Verdict}
-use Rattle.refusal.specs.declared.Verdict.TheVariants.{Accepted, Refused}
+use Rattle.refusal.specs.Numbers.{Verdict}
 use Rattle.refusal.proofs.Numbers.{not_both}
 use Rattle.chain.proofs.Kept.{sound_kept}
 use Rattle.refusal.specs.Answers.{verdict_in, Handed, handed}
@@ -23,8 +23,7 @@ use Rattle.chain.specs.Refusals.{verdict_of}
 use Rattle.event.specs.declared.Event.{Event}
 use Rattle.run.specs.List.{listed_at}
 use Rattle.run.specs.Run.{Report, listed_outcome, noted, stopped, run_from, accepted_from}
-use Rattle.event.specs.declared.Listed.{Listed}
-use Rattle.event.specs.declared.Listed.TheVariants.{Known, Unknown}
+use Rattle.event.specs.Numbers.{Listed}
 
 pub goes_on : (left rest : ℕ) (bytes : List ℕ) (n : ℕ) (s : Chain) (results : List ℕ) (o : Outcome) → left ≡ suc rest
     → o ≡ listed_outcome (listed_at bytes n) s
@@ -41,8 +40,8 @@ unfolding run_from
 stops left rest bytes n s results o more is off = simp (more, ← is, off)
 
 pub step_sound : (listed : Listed) (s : Chain) → sound s ≡ true → sound (listed_outcome listed s).chain ≡ true
-step_sound (Known e) s h = sound_kept e s h
-step_sound Unknown s h = h
+step_sound (Ok e) s h = sound_kept e s h
+step_sound (Err _) s h = h
 
 -- the results keep their length
 pub noted-length : (n : ℕ) (h : Handed) (results : List ℕ) → length (noted n h results) ≡ length results
@@ -64,7 +63,7 @@ pub run_through : (bytes : List ℕ) (P : OfRun)
     → P n s results r (k + 1))
     → (left n : ℕ) (s : Chain) (results : List ℕ) → P n s results (run_from left bytes n s results) (accepted_from left bytes n s)
 unfolding run_from accepted_from
-run_through bytes P stop step zero n s results = stop n s results Accepted
+run_through bytes P stop step zero n s results = stop n s results (Ok tt)
 run_through bytes P stop step (suc left) n s results =
     let o : Outcome = listed_outcome (listed_at bytes n) s in
     let rest : Report = run_from left bytes (n + 1) o.chain (noted n (handed o.answer) results) in
@@ -75,11 +74,11 @@ run_through bytes P stop step (suc left) n s results =
 
 judged_same : (v : Verdict) (e : Event) (s : Chain) → is_accepted (verdict_in (judged v e s).answer) ≡ false → (judged v e s).chain ≡ s
 unfolding judged accepted refused decision
-judged_same (Refused why) e s off = refl
-judged_same Accepted e s off = not_both (sym off ∙ ap is_accepted (decided_tells e (seen_by e s)))
+judged_same (Err why) e s off = refl
+judged_same (Ok tt) e s off = not_both (sym off ∙ ap is_accepted (decided_tells e (seen_by e s)))
 
 -- a listed event that is refused leaves the chain
 pub step_same : (listed : Listed) (s : Chain) → is_accepted (verdict_in (listed_outcome listed s).answer) ≡ false → (listed_outcome listed s).chain ≡ s
 unfolding event_of
-step_same (Known e) s off = judged_same (verdict_of e s) e s off
-step_same Unknown s off = refl
+step_same (Ok e) s off = judged_same (verdict_of e s) e s off
+step_same (Err _) s off = refl

@@ -1,7 +1,7 @@
 -- Lists of events as bytes (the rules paper, "Views and runs"): four an event, its numbers in their order.
 use Rattle.std.specs.Prelude.{List, ℕ, ◌+◌, ◌*◌, get_or}
 use Rattle.event.specs.Numbers.{listed}
-use Rattle.event.specs.declared.Listed.{Listed}
+use Rattle.event.specs.Numbers.{Listed}
 
 -- the n-th event of a list of bytes, from 0
 unfoldable pub listed_at : List ℕ → ℕ → Listed

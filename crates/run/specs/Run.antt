@@ -1,19 +1,18 @@
 -- A run (the rules paper, "Views and runs"): it stops at the limit, the end or the first refusal, and keeps what it accepted.
+use Rattle.std.specs.Prelude.{Ok, Err}
 use Rattle.std.specs.Prelude.{Bool, not, cond, List, [], ◌∷◌, ℕ, zero, suc, ◌+◌, ◌*◌, ◌/◌, ◌%◌, min, eqb, ltb, length, set}
 use Rattle.refusal.specs.Numbers.{is_accepted, first_of_list}
 use Rattle.refusal.specs.declared.Refusal.{Refusal}
 use Rattle.refusal.specs.declared.Refusal.TheVariants.{BrokenEvent, ShortResults, UnknownKind}
-use Rattle.refusal.specs.declared.Verdict.{Verdict}
-use Rattle.refusal.specs.declared.Verdict.TheVariants.{Accepted}
+use Rattle.refusal.specs.Numbers.{Verdict}
 use Rattle.refusal.specs.Answers.{verdict_in, Handed, handed}
 use Rattle.chain.specs.Events.{event_of}
 use Rattle.chain.specs.Refusals.{not_sound}
-use Rattle.refusal.specs.declared.Answer.{Answer}
+use Rattle.refusal.specs.Numbers.{Answer}
 use Rattle.chain.specs.declared.Chain.{Chain}
 use Rattle.chain.specs.declared.Outcome.{Outcome}
 use Rattle.run.specs.List.{listed_at}
-use Rattle.event.specs.declared.Listed.{Listed}
-use Rattle.event.specs.declared.Listed.TheVariants.{Known, Unknown}
+use Rattle.event.specs.Numbers.{Listed}
 use Rattle.run.specs.declared.Ran.{Ran}
 
 -- what a run hands back, and its result buffer afterwards
@@ -39,8 +38,8 @@ before_any s bytes results = first_of_list (not_sound s ∷ broken_event (length
 
 -- a listed event: 12, kind outside 1 to 8, before the event's own refusals
 abbrev pub listed_outcome : Listed → Chain → Outcome
-listed_outcome (Known e) s = event_of e s
-listed_outcome Unknown s = record { answer = Answer.Refused UnknownKind; chain = s }
+listed_outcome (Ok e) s = event_of e s
+listed_outcome (Err _) s = record { answer = Err UnknownKind; chain = s }
 
 -- the n-th accepted event's two bytes: 1 and the byte driven or read, or 0 and 0
 abbrev pub noted : ℕ → Handed → List ℕ → List ℕ
@@ -52,7 +51,7 @@ stopped verdict n s results = record { ran = record { verdict = verdict; accepte
 
 -- from the n-th event on, with so many left before the limit or the end: after an accepted event the run goes on, at a refusal it stops
 unfoldable pub run_from : ℕ → List ℕ → ℕ → Chain → List ℕ → Report
-run_from zero bytes n s results = stopped Accepted n s results
+run_from zero bytes n s results = stopped (Ok tt) n s results
 run_from (suc left) bytes n s results =
     let o : Outcome = listed_outcome (listed_at bytes n) s in
     cond (is_accepted (verdict_in o.answer))

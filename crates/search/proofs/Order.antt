@@ -1,5 +1,6 @@
 -- Laws of the candidate and of the first ISR bit: one look for the first set channel answers for both.
 -- Assumes nothing.
+use Rattle.std.specs.Prelude.{Option, Some, None}
 use mathlib.Core.Path.{◌≡◌, refl, ap, ◌∙◌}
 use mathlib.Core.Bool.{Bool, true, false, cond, not, ◌&&◌, ◌||◌}
 use Prim.Native.Nat.{ℕ, ◌-◌, ◌<◌}
@@ -14,8 +15,6 @@ use Rattle.order.proofs.Order.{channel_lt, first_in-same, first_in_ahead, first_
 use Rattle.search.specs.Candidate.{candidate, candidate_in, channel_of}
 use Rattle.search.specs.Clear.{clear_first}
 use Rattle.search.specs.Order.{last_of, first_waiting, fence}
-use Rattle.search.specs.declared.Candidate.{Candidate}
-use Rattle.search.specs.declared.Candidate.TheVariants.{Channel, Nobody}
 
 -- the channels that wait or are in service
 abbrev busy : ℕ → ℕ → ℕ → ℕ → Bool
@@ -28,8 +27,8 @@ first_in_busy last irr imr isr h =
     (λ k l. bit-or (bit_and irr (255 - imr)) isr k ∙ ap (λ (b : Bool). b || bit isr k) (bit-waiting irr imr k h l))
 
 -- the candidate, where the first channel that waits or is in service is known: itself, unless it is in service
-abbrev pub candidate_by : ℕ → ℕ → Candidate
-candidate_by isr k = cond (ltb 7 k) Nobody (cond (bit isr k) Nobody (Channel k))
+abbrev pub candidate_by : ℕ → ℕ → Option ℕ
+candidate_by isr k = cond (ltb 7 k) None (cond (bit isr k) None (Some k))
 
 pub candidate_by_lem : (last irr imr isr : ℕ) → imr < 256
     → candidate_in last irr imr isr ≡ candidate_by isr (first_channel last (bit_or (bit_and irr (255 - imr)) isr))
@@ -49,7 +48,7 @@ candidate_by_lem last irr imr isr h = rw (first_in_busy last irr imr isr h) (by 
     is_channel = le-ltb 7 (channel_at last place) (le_of_suc-le-suc (channel_lt last place))
 
     by : (found fenced : Bool) → ltb place 8 ≡ found → bit isr (channel_at last place) ≡ fenced
-        → cond (ltb (first_waiting last irr imr) (fence last isr)) (Channel (channel_at last (first_waiting last irr imr))) Nobody
+        → cond (ltb (first_waiting last irr imr) (fence last isr)) (Some (channel_at last (first_waiting last irr imr))) None
         ≡ candidate_by isr (cond (ltb place 8) (channel_at last place) 255)
     by true true found fenced = simp (ahead, found, fenced, is_channel)
     by true false found fenced =
@@ -66,7 +65,7 @@ pub clear_first_lem : (last isr : ℕ) → clear_first last isr ≡ without_bit 
 unfolding clear_first first_channel
 clear_first_lem last isr = clear_by (ltb (fence last isr) 8) isr (channel_at last (fence last isr))
 
-if_found_lt : (found : Bool) (c : Candidate) → channel_of c < 8 → channel_of (cond found c Nobody) < 8
+if_found_lt : (found : Bool) (c : Option ℕ) → channel_of c < 8 → channel_of (cond found c None) < 8
 if_found_lt true c h = h
 if_found_lt false c h = lit< tt
 

@@ -1,5 +1,6 @@
 -- A channel that waits in an order: where the candidate stands to it, and how an answer to another channel brings it nearer in rotating order.
 -- Assumes nothing.
+use Rattle.std.specs.Prelude.{Option}
 use mathlib.Core.Path.{◌≡◌, refl, ap, ◌∙◌}
 use mathlib.Core.Bool.{true, false, false≢true}
 use Prim.Native.Nat.{ℕ, ◌+◌, ◌-◌, ◌%◌, ◌≤◌, ◌<◌}
@@ -13,7 +14,6 @@ use Rattle.search.specs.Candidate.{candidate, candidate_in, exists, channel_of}
 use Rattle.order.specs.Order.{channel_at, first_in}
 use Rattle.order.proofs.Order.{channel_lt}
 use Rattle.search.specs.Order.{last_of, first_waiting, fence}
-use Rattle.search.specs.declared.Candidate.{Candidate}
 
 -- where an armed chip has a candidate, it is the first waiting channel of the order in force
 pub candidate_at : (irr imr isr mode pointer : ℕ) → bit mode 7 ≡ true → exists (candidate irr imr isr mode pointer) ≡ true
@@ -21,7 +21,7 @@ pub candidate_at : (irr imr isr mode pointer : ℕ) → bit mode 7 ≡ true → 
 unfolding candidate candidate_in
 candidate_at irr imr isr mode pointer armed =
     rw armed
-    (either (λ (c : Candidate). exists c ≡ true → channel_of c ≡ channel_at (last_of mode pointer) (first_waiting (last_of mode pointer) irr imr))
+    (either (λ (c : Option ℕ). exists c ≡ true → channel_of c ≡ channel_at (last_of mode pointer) (first_waiting (last_of mode pointer) irr imr))
     (ltb (first_waiting (last_of mode pointer) irr imr) (fence (last_of mode pointer) isr)) _ _
     (λ ahead found. refl)
     (λ fenced found. absurd (false≢true found)))

@@ -1,5 +1,6 @@
 -- The definitions tried on the paper's own figures, by computation.
 -- Assumes nothing.
+use Rattle.std.specs.Prelude.{Some, None}
 use mathlib.Core.List.{List, [], ◌∷◌}
 use mathlib.Core.Path.{◌≡◌, refl}
 use Prim.Native.Nat.{ℕ}
@@ -7,7 +8,6 @@ use Rattle.search.specs.Candidate.{candidate, candidate_in, search_number}
 use Rattle.search.specs.Clear.{clear_highest, clear_first}
 use Rattle.order.specs.Order.{channel_at, first_in}
 use Rattle.search.specs.Order.{last_of}
-use Rattle.search.specs.declared.Candidate.TheVariants.{Channel, Nobody}
 
 -- the order in force, as the list of its channels
 abbrev order : ℕ → ℕ → List ℕ
@@ -24,10 +24,10 @@ orders = (refl, refl)
 
 -- ISR bit 3, fixed: pending 3 alone is no candidate, pending 2 is; masked or disarmed it is none
 candidates :
-    (candidate 0x08 0x00 0x08 0x80 7 ≡ Nobody)
-    × (candidate 0x04 0x00 0x08 0x80 7 ≡ Channel 2)
-    × (candidate 0x04 0x04 0x00 0x80 7 ≡ Nobody)
-    × (candidate 0x04 0x00 0x00 0x00 7 ≡ Nobody)
+    (candidate 0x08 0x00 0x08 0x80 7 ≡ None)
+    × (candidate 0x04 0x00 0x08 0x80 7 ≡ Some 2)
+    × (candidate 0x04 0x04 0x00 0x80 7 ≡ None)
+    × (candidate 0x04 0x00 0x00 0x00 7 ≡ None)
 unfolding candidate candidate_in first_in
 candidates = (refl, refl, refl, refl)
 

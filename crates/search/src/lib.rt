@@ -7,13 +7,6 @@ ghost use Rattle.search.specs.Order.{last_of};
 ghost use Rattle.search.specs.Candidate.{candidate, exists, channel_of, candidate_number};
 ghost use Rattle.search.specs.Clear.{clear_highest};
 
-// What a search for a candidate finds.
-#[derive(Clone, Copy)]
-pub enum Candidate {
-    Channel(u8),
-    Nobody,
-}
-
 // The channel that ends the order in force.
 fn last_of(mode: u8, pointer: u8) -> u8
     ensures { result ≡ last_of mode pointer }
@@ -22,22 +15,22 @@ fn last_of(mode: u8, pointer: u8) -> u8
 }
 
 // The candidate of a chip with these registers: the first channel that waits or is in service, unless it is in service.
-pub fn candidate_of(irr: u8, imr: u8, isr: u8, mode: u8, pointer: u8) -> Candidate
+pub fn candidate_of(irr: u8, imr: u8, isr: u8, mode: u8, pointer: u8) -> Option<u8>
     ensures { result ≡ candidate irr imr isr mode pointer }
 {
     if !bits::is_set(mode, 7) {
-        return Candidate::Nobody;
+        return None;
     }
     let last = last_of(mode, pointer);
     let waiting = irr & !imr;
     let first = order::first_channel(last, waiting | isr);
     if first > 7 {
-        return Candidate::Nobody;
+        return None;
     }
     if bits::is_set(isr, first) {
-        return Candidate::Nobody;
+        return None;
     }
-    Candidate::Channel(first)
+    Some(first)
 }
 
 // ISR after "clear highest priority ISR bit", by the order in force. An empty ISR has no first bit, and 255 is no bit to clear.
@@ -49,34 +42,23 @@ pub fn clear_highest(isr: u8, mode: u8, pointer: u8) -> u8
     bits::without_bit(isr, first)
 }
 
-impl Candidate {
-    // Whether there is one.
-    pub fn exists(self) -> bool
-        ensures { result ≡ exists self }
-    {
-        match self {
-            Candidate::Channel(_) => true,
-            Candidate::Nobody => false,
-        }
-    }
+// A candidate exists.
+pub fn exists(candidate: Option<u8>) -> bool
+    ensures { result ≡ exists candidate }
+{
+    candidate.is_some()
+}
 
-    // The channel, 0 if none.
-    pub fn channel(self) -> u8
-        ensures { result ≡ channel_of self }
-    {
-        match self {
-            Candidate::Channel(k) => k,
-            Candidate::Nobody => 0,
-        }
-    }
+// The candidate's channel, 0 if none.
+pub fn channel_of(candidate: Option<u8>) -> u8
+    ensures { result ≡ channel_of candidate }
+{
+    candidate.unwrap_or(0)
+}
 
-    // The channel, or 255 for no candidate.
-    pub fn number(self) -> u8
-        ensures { result ≡ candidate_number self }
-    {
-        match self {
-            Candidate::Channel(k) => k,
-            Candidate::Nobody => 255,
-        }
-    }
+// The candidate's channel, or 255 for no candidate.
+pub fn candidate_number(candidate: Option<u8>) -> u8
+    ensures { result ≡ candidate_number candidate }
+{
+    candidate.unwrap_or(255)
 }

@@ -1,5 +1,6 @@
 -- A step as it is spelled is read as that step.
 -- Assumes nothing.
+use Rattle.std.specs.Prelude.{Some}
 use mathlib.Core.Bool.{Bool, true, false, cond, not, ◌&&◌, false≢true}
 use mathlib.Core.List.{List, [], ◌∷◌, ◌++◌}
 use mathlib.Core.Path.{◌≡◌, refl, sym, ap, ap₂, ◌∙◌}
@@ -18,7 +19,6 @@ use Rattle.text.proofs.ReadBack.{each, each_append, each_at, plain_byte, plain, 
 use Rattle.text.specs.Tables.{place_in}
 use Rattle.text.specs.Words.{is_letter, lead, line_end, word_start, word_end, word, behind, decimal_in, hex_in}
 use Rattle.text.specs.Written.{decimal, hex_byte}
-use Rattle.text.specs.declared.Number.TheVariants.{Value}
 use Rattle.text.specs.declared.Sort.TheVariants.{Letter}
 use Rattle.steps.specs.Kinds.{name_of, kind_of, form_of}
 use Rattle.steps.specs.Lines.{value_of, behind_argument, is_over, step_from, read_by, read_as, step_in, text_end, step_of}
@@ -45,7 +45,7 @@ Taken End n = n ≡ 0
 
 -- what is read of an argument with a rest behind it: its number, and the rest
 abbrev Reads : Argument → ℕ → List ℕ → Type 0
-Reads a n rest = (value_of a (word (spelled_as a n ++ rest)) ≡ Value n) × (behind_argument a (spelled_as a n ++ rest) ≡ rest)
+Reads a n rest = (value_of a (word (spelled_as a n ++ rest)) ≡ Some n) × (behind_argument a (spelled_as a n ++ rest) ≡ rest)
 
 argument_read : (a : Argument) (n : ℕ) (rest : List ℕ) → Taken a n → lead Letter rest ≡ 0 → Reads a n rest
 unfolding behind_argument
@@ -56,7 +56,7 @@ argument_read Code n rest h none = number_back hex_byte hex_in n rest (hex_back 
 argument_read Byte n rest h none = number_back hex_byte hex_in n rest (hex_back n h) none
 argument_read Channel n rest h none = number_back decimal decimal_in n rest (decimal_back n h) none
 argument_read Level n rest h none = number_back decimal decimal_in n rest (decimal_back n h) none
-argument_read End n rest h none = (ap Value (sym h), refl)
+argument_read End n rest h none = (ap Some (sym h), refl)
 
 -- an argument begins with a blank, or is none
 begins_blank : (a : Argument) (n : ℕ) (rest : List ℕ) → lead Letter rest ≡ 0 → lead Letter (spelled_as a n ++ rest) ≡ 0
@@ -78,7 +78,7 @@ form_read :
     → Taken form.chip n.chip
     → Taken form.channel n.channel
     → Taken form.value n.value
-    → read_by kind form (arguments form n) ≡ step_from kind (Value n.chip) (Value n.channel) (Value n.value) true
+    → read_by kind form (arguments form n) ≡ step_from kind (Some n.chip) (Some n.channel) (Some n.value) true
 unfolding read_by word_start word_end
 form_read kind form n one two three =
     let last : List ℕ = spelled_as form.value n.value ++ [] in
@@ -88,9 +88,9 @@ form_read kind form n one two three =
     let second = argument_read form.channel n.channel last two ends_last in
     let third = argument_read form.value n.value [] three refl in
     ap (λ x. step_from kind x (value_of form.channel (word (behind_argument form.chip (arguments form n)))) (value_of form.value (word (behind_argument form.channel (behind_argument form.chip (arguments form n))))) (is_over (behind_argument form.value (behind_argument form.channel (behind_argument form.chip (arguments form n)))))) first.0
-    ∙ ap (λ l. step_from kind (Value n.chip) (value_of form.channel (word l)) (value_of form.value (word (behind_argument form.channel l))) (is_over (behind_argument form.value (behind_argument form.channel l)))) first.1
-    ∙ ap₂ (λ x l. step_from kind (Value n.chip) x (value_of form.value (word l)) (is_over (behind_argument form.value l))) second.0 second.1
-    ∙ ap₂ (λ x l. step_from kind (Value n.chip) (Value n.channel) x (is_over l)) third.0 third.1
+    ∙ ap (λ l. step_from kind (Some n.chip) (value_of form.channel (word l)) (value_of form.value (word (behind_argument form.channel l))) (is_over (behind_argument form.value (behind_argument form.channel l)))) first.1
+    ∙ ap₂ (λ x l. step_from kind (Some n.chip) x (value_of form.value (word l)) (is_over (behind_argument form.value l))) second.0 second.1
+    ∙ ap₂ (λ x l. step_from kind (Some n.chip) (Some n.channel) x (is_over l)) third.0 third.1
 
 -- no byte of a step is a carriage return (13), so all of its line is text
 abbrev no_return : ℕ → Bool
@@ -136,7 +136,7 @@ step_read :
     → Taken (form_of n.kind).channel n.channel
     → Taken (form_of n.kind).value n.value
     → step_in started (spelled n) ≡ read_by n.kind (form_of n.kind) (arguments (form_of n.kind) n)
-    → step_from n.kind (Value n.chip) (Value n.channel) (Value n.value) true ≡ step
+    → step_from n.kind (Some n.chip) (Some n.channel) (Some n.value) true ≡ step
     → step_of started (spelled n) ≡ step
 unfolding spelled
 step_read started n step name one two three named is =

@@ -1,11 +1,9 @@
 -- What a line of an event list says.
+use Rattle.std.specs.Prelude.{Option, Some, None, Ok, Err}
 use Rattle.std.specs.Prelude.{Bool, true, false, cond, not, ◌&&◌, ◌||◌, List, ℕ, ◌+◌, ◌-◌, eqb, ltb, length, get_or, take, drop}
 use Rattle.event.specs.Numbers.{listed}
-use Rattle.event.specs.declared.Listed.{Listed}
-use Rattle.event.specs.declared.Listed.TheVariants.{Known, Unknown}
+use Rattle.event.specs.Numbers.{Listed}
 use Rattle.text.specs.Words.{word, behind, word_at, decimal_in, hex_in, word_start, word_end}
-use Rattle.text.specs.declared.Number.{Number}
-use Rattle.text.specs.declared.Number.TheVariants.{Value, Wrong}
 use Rattle.steps.specs.Kinds.{kind_of, form_of, argument_number}
 use Rattle.steps.specs.declared.Argument.{Argument}
 use Rattle.steps.specs.declared.Argument.TheVariants.{Count, Fill, Chip, Code, Byte, Channel, Level, End}
@@ -21,10 +19,10 @@ value_of Count found = decimal_in found
 value_of Fill found = hex_in found
 value_of Chip found = decimal_in found
 value_of Code found = hex_in found
-value_of Byte found = hex_in found
+value_of Ok (Some found) = hex_in found
 value_of Channel found = decimal_in found
 value_of Level found = decimal_in found
-value_of End found = Value 0
+value_of End found = Some 0
 
 -- an argument is a word, and what a step does not take is none
 abbrev pub argument_end : Argument → List ℕ → ℕ
@@ -39,8 +37,8 @@ is_over line = eqb (word_start line) (word_end line)
 
 -- the step of a kind with its numbers: the count and the fill of a start, or the event that they are in a list of numbers
 abbrev pub happening : Listed → Step
-happening (Known e) = Happens e
-happening Unknown = Malformed AnEvent 0
+happening (Ok e) = Happens e
+happening (Err _) = Malformed AnEvent 0
 
 abbrev pub made : ℕ → ℕ → ℕ → ℕ → Step
 made kind chip channel value = cond (eqb kind 0) (Start chip value) (happening (listed kind chip channel value))
@@ -60,10 +58,10 @@ end_place form = value_place form + words form.value
 
 -- of the three arguments and the end behind them, the first that is wrong is what was expected, at its place
 unfoldable pub step_from : ℕ → Number → Number → Number → Bool → Step
-step_from kind Wrong channel value over = Malformed (Wanted kind (form_of kind).chip) 1
-step_from kind (Value a) Wrong value over = Malformed (Wanted kind (form_of kind).channel) (channel_place (form_of kind))
-step_from kind (Value a) (Value b) Wrong over = Malformed (Wanted kind (form_of kind).value) (value_place (form_of kind))
-step_from kind (Value a) (Value b) (Value c) over = cond over (made kind a b c) (Malformed (Wanted kind End) (end_place (form_of kind)))
+step_from kind None channel value over = Malformed (Wanted kind (form_of kind).chip) 1
+step_from kind (Some a) None value over = Malformed (Wanted kind (form_of kind).channel) (channel_place (form_of kind))
+step_from kind (Some a) (Some b) None over = Malformed (Wanted kind (form_of kind).value) (value_place (form_of kind))
+step_from kind (Some a) (Some b) (Some c) over = cond over (made kind a b c) (Malformed (Wanted kind End) (end_place (form_of kind)))
 
 -- each argument behind the name, by what it should be
 unfoldable pub read_by : ℕ → Form → List ℕ → Step

@@ -3,7 +3,7 @@ use Rattle.std.specs.Prelude.{cond, [], ◌∷◌, ℕ}
 use Rattle.bits.specs.Below.{digit}
 use Rattle.chip.specs.Status.{status_byte, waiting_number}
 use Rattle.refusal.specs.Numbers.{first_of_list, is_accepted}
-use Rattle.refusal.specs.declared.Verdict.{Verdict}
+use Rattle.refusal.specs.Numbers.{Verdict}
 use Rattle.decide.specs.Refusals.{no_such_chip}
 use Rattle.chain.specs.Refusals.{not_sound}
 use Rattle.chain.specs.Fields.{chip_at}

@@ -8,5 +8,5 @@ returns-in-Done c = simp (c.in-Done.is, written_none)
 pub returns-in-Byte : goal.returns-in-Byte
 returns-in-Byte c = simp (c.put_byte_field.ensures, c.in-Byte.is)
 
-pub returns-in-Refused : goal.returns-in-Refused
-returns-in-Refused c = simp (c.in-Refused.is, written_none)
+pub returns-in-Err : goal.returns-in-Err
+returns-in-Err c = simp (c.in-Err.is, written_none)

@@ -1,13 +1,13 @@
 -- `chip::Chip::status` meets its contract.
+use Rattle.std.specs.Prelude.{Option}
 use Rattle.std.proofs.Common.{◌≡◌, ℕ, ◌<◌}
-use Rattle.search.specs.declared.Candidate.{Candidate}
 use Rattle.search.specs.Candidate.{candidate, channel_of}
 use native.Mathlib.Omega.{arith}
 use Rattle.search.proofs.Order.{candidate_lt}
 use Rattle.chip.proofs.Chip.status.Goals as goal
 
 -- the candidate's channel is below 8, so the byte has room for every bit
-channel_lt : (irr imr isr mode pointer channel : ℕ) (found : Candidate)
+channel_lt : (irr imr isr mode pointer channel : ℕ) (found : Option ℕ)
     → found ≡ candidate irr imr isr mode pointer
     → channel ≡ channel_of found
     → channel < 8

@@ -1,5 +1,5 @@
 -- `decide::Look::unless_responding` meets its contract.
 use Rattle.decide.proofs.Look.unless_responding.Goals as goal
 
-pub returns-in-UnderWay : goal.returns-in-UnderWay
-returns-in-UnderWay c = simp c.in-UnderWay.is
+pub returns-in-Some : goal.returns-in-Some
+returns-in-Some c = simp c.in-Some.is

@@ -1,7 +1,7 @@
 -- `decide::Seen::change` meets its contract.
+use Rattle.std.specs.Prelude.{Ok}
 use mathlib.Core.Path.{◌≡◌, ap, sym, ◌∙◌}
 use lib.Dec.{leb}
-use Rattle.refusal.specs.declared.Verdict.TheVariants.{Accepted}
 use Rattle.event.specs.Numbers.{in_numbers}
 use Rattle.event.specs.declared.Event.{Event}
 use Rattle.event.specs.declared.Event.TheVariants.{Fall}
@@ -12,7 +12,7 @@ use Rattle.decide.proofs.Soundness.{seen_chip}
 use Rattle.decide.proofs.Seen.change.Goals as goal
 
 -- the verdict on the event is the verdict on what it is found to be
-event_is : (v : Seen) (e f : Event) → e ≡ f → verdict_on e v ≡ Accepted → verdict_on f v ≡ Accepted
+event_is : (v : Seen) (e f : Event) → e ≡ f → verdict_on e v ≡ Ok tt → verdict_on f v ≡ Ok tt
 event_is v e f is ok = ap (λ (e : Event). verdict_on e v) (sym is) ∙ ok
 
 pub data_write-requires : goal.data_write-requires

@@ -6,11 +6,11 @@ use Rattle.decide.proofs.Soundness.{selected-sound}
 use Rattle.decide.proofs.Seen.first_pulse.Goals as goal
 
 pub answer-requires : goal.answer-requires
-answer-requires c = let found = selected-sound c.args.self c.in-UnderWay.reply c.requires (sym c.selected-selected.ensures ∙ c.in-UnderWay.is) in rw found.1 (lit< tt)
+answer-requires c = let found = selected-sound c.args.self c.in-Some.reply c.requires (sym c.selected-selected.ensures ∙ c.in-Some.is) in rw found.1 (lit< tt)
 
-pub returns-in-Idle : goal.returns-in-Idle
+pub returns-in-None : goal.returns-in-None
 unfolding first_pulse
-returns-in-Idle c = simp (c.setting.ensures, c.nothing.ensures, ← c.selected-selected.ensures, c.in-Idle.is)
+returns-in-None c = simp (c.setting.ensures, c.nothing.ensures, ← c.selected-selected.ensures, c.in-None.is)
 
-pub returns-in-UnderWay : goal.returns-in-UnderWay
-returns-in-UnderWay c = simp (c.answer.ensures, ← c.selected-selected.ensures, c.in-UnderWay.is)
+pub returns-in-Some : goal.returns-in-Some
+returns-in-Some c = simp (c.answer.ensures, ← c.selected-selected.ensures, c.in-Some.is)

@@ -1,5 +1,5 @@
 -- `image::writing::response_bytes` meets its contract.
 use Rattle.image.proofs.writing.response_bytes.Goals as goal
 
-pub returns-in-UnderWay : goal.returns-in-UnderWay
-returns-in-UnderWay c = simp c.in-UnderWay.is
+pub returns-in-Some : goal.returns-in-Some
+returns-in-Some c = simp c.in-Some.is

@@ -11,29 +11,29 @@ use Rattle.in_place.proofs.events.data_write.Goals as goal
 
 pub data_write-requires : goal.data_write-requires
 unfolding chain_in
-data_write-requires c = seen_chip c.seen_round-seen.result (enough (Data c.args.i c.args.byte) (chain_in c.args.image.now) c.seen_round-seen.result c.seen_round-seen.ensures c.requires.chain_sound).sound_seen (passed_names (Data c.args.i c.args.byte) c.seen_round-seen.result refl (sym c.data_verdict-judged.ensures ∙ c.in-Accepted.is))
+data_write-requires c = seen_chip c.seen_round-seen.result (enough (Data c.args.i c.args.byte) (chain_in c.args.image.now) c.seen_round-seen.result c.seen_round-seen.ensures c.requires.chain_sound).sound_seen (passed_names (Data c.args.i c.args.byte) c.seen_round-seen.result refl (sym c.data_verdict-judged.ensures ∙ c.in-Ok.is))
 
 pub accept-requires : goal.accept-requires
 unfolding chain_in
 accept-requires c = record {
   image_form = c.requires.image_form;
-  at_bound = lands (Data c.args.i c.args.byte) (chain_in c.args.image.now) _ _ c.seen_round-seen.ensures c.requires.chain_sound (sym c.data_verdict-judged.ensures ∙ c.in-Accepted.is) c.data_write.ensures;
+  at_bound = lands (Data c.args.i c.args.byte) (chain_in c.args.image.now) _ _ c.seen_round-seen.ensures c.requires.chain_sound (sym c.data_verdict-judged.ensures ∙ c.in-Ok.is) c.data_write.ensures;
 }
 
-pub returns-in-Accepted : goal.returns-in-Accepted
+pub returns-in-Ok : goal.returns-in-Ok
 unfolding chain_in
-returns-in-Accepted c =
-    let is = does (Data c.args.i c.args.byte) (chain_in c.args.image.now) _ _ c.seen_round-seen.ensures c.requires.chain_sound (sym c.data_verdict-judged.ensures ∙ c.in-Accepted.is) c.data_write.ensures in
+returns-in-Ok c =
+    let is = does (Data c.args.i c.args.byte) (chain_in c.args.image.now) _ _ c.seen_round-seen.ensures c.requires.chain_sound (sym c.data_verdict-judged.ensures ∙ c.in-Ok.is) c.data_write.ensures in
     record {
       value = c.accept.ensures.value ∙ ap (λ (o : Outcome). o.answer) is;
       form_after = c.accept.ensures.form_after;
       chain_after = c.accept.ensures.chain_after ∙ ap (λ (o : Outcome). o.chain) is;
     }
 
-pub returns-in-Refused : goal.returns-in-Refused
+pub returns-in-Err : goal.returns-in-Err
 unfolding chain_in refused
-returns-in-Refused c =
-    let is = declines (Data c.args.i c.args.byte) (chain_in c.args.image.now) _ _ c.seen_round-seen.ensures c.requires.chain_sound (sym c.data_verdict-judged.ensures ∙ c.in-Refused.is) in
+returns-in-Err c =
+    let is = declines (Data c.args.i c.args.byte) (chain_in c.args.image.now) _ _ c.seen_round-seen.ensures c.requires.chain_sound (sym c.data_verdict-judged.ensures ∙ c.in-Err.is) in
     record {
       value = ap (λ (o : Outcome). o.answer) is;
       form_after = c.requires.image_form;

@@ -14,23 +14,23 @@ pub accept-requires : goal.accept-requires
 unfolding chain_in walked_to
 accept-requires c = record {
   image_form = c.requires.image_form;
-  at_bound = lands (Status c.args.i) (chain_in c.args.image.now) _ _ (c.seen_round-seen.ensures ∙ ap (λ (w : Walk). seen_round c.args.i w.ei (chain_in c.args.image.now)) c.walked.ensures) c.requires.chain_sound (sym c.bus_verdict-judged.ensures ∙ c.in-Accepted.is) c.status.ensures;
+  at_bound = lands (Status c.args.i) (chain_in c.args.image.now) _ _ (c.seen_round-seen.ensures ∙ ap (λ (w : Walk). seen_round c.args.i w.ei (chain_in c.args.image.now)) c.walked.ensures) c.requires.chain_sound (sym c.bus_verdict-judged.ensures ∙ c.in-Ok.is) c.status.ensures;
 }
 
-pub returns-in-Accepted : goal.returns-in-Accepted
+pub returns-in-Ok : goal.returns-in-Ok
 unfolding chain_in walked_to
-returns-in-Accepted c =
-    let is = does (Status c.args.i) (chain_in c.args.image.now) _ _ (c.seen_round-seen.ensures ∙ ap (λ (w : Walk). seen_round c.args.i w.ei (chain_in c.args.image.now)) c.walked.ensures) c.requires.chain_sound (sym c.bus_verdict-judged.ensures ∙ c.in-Accepted.is) c.status.ensures in
+returns-in-Ok c =
+    let is = does (Status c.args.i) (chain_in c.args.image.now) _ _ (c.seen_round-seen.ensures ∙ ap (λ (w : Walk). seen_round c.args.i w.ei (chain_in c.args.image.now)) c.walked.ensures) c.requires.chain_sound (sym c.bus_verdict-judged.ensures ∙ c.in-Ok.is) c.status.ensures in
     record {
       value = c.accept.ensures.value ∙ ap (λ (o : Outcome). o.answer) is;
       form_after = c.accept.ensures.form_after;
       chain_after = c.accept.ensures.chain_after ∙ ap (λ (o : Outcome). o.chain) is;
     }
 
-pub returns-in-Refused : goal.returns-in-Refused
+pub returns-in-Err : goal.returns-in-Err
 unfolding chain_in walked_to refused
-returns-in-Refused c =
-    let is = declines (Status c.args.i) (chain_in c.args.image.now) _ _ (c.seen_round-seen.ensures ∙ ap (λ (w : Walk). seen_round c.args.i w.ei (chain_in c.args.image.now)) c.walked.ensures) c.requires.chain_sound (sym c.bus_verdict-judged.ensures ∙ c.in-Refused.is) in
+returns-in-Err c =
+    let is = declines (Status c.args.i) (chain_in c.args.image.now) _ _ (c.seen_round-seen.ensures ∙ ap (λ (w : Walk). seen_round c.args.i w.ei (chain_in c.args.image.now)) c.walked.ensures) c.requires.chain_sound (sym c.bus_verdict-judged.ensures ∙ c.in-Err.is) in
     record {
       value = ap (λ (o : Outcome). o.answer) is;
       form_after = c.requires.image_form;

@@ -1,5 +1,5 @@
 -- `response::Response::is_of` meets its contract.
 use Rattle.response.proofs.Response.is_of.Goals as goal
 
-pub returns-in-UnderWay : goal.returns-in-UnderWay
-returns-in-UnderWay c = simp c.in-UnderWay.is
+pub returns-in-Some : goal.returns-in-Some
+returns-in-Some c = simp c.in-Some.is
