@@ -8,7 +8,7 @@ use crate::{Chain, Outcome};
 use chip::Chip;
 use decide::Change;
 use event::next_number;
-use refusal::{Answer, Refusal};
+use refusal::Refusal;
 use response::Response;
 
 impl Chain {
@@ -16,13 +16,12 @@ impl Chain {
     pub(crate) fn zero() -> Chain
         ensures { result ≡ zero_chain }
     {
-        let chip = Chip::zero();
         Chain {
             count: 0,
-            chips: [chip; 8],
+            chips: [Chip::zero(); 8],
             enable: false,
             iack: false,
-            response: Response::Idle,
+            response: None,
             event: 0,
         }
     }
@@ -31,38 +30,30 @@ impl Chain {
     pub fn chip_at(self, i: u8) -> Chip
         ensures { result ≡ chip_at self i }
     {
-        let n = i as usize;
-        if n >= 8 {
-            return Chip::zero();
+        match self.chips.get(i as usize) {
+            None => Chip::zero(),
+            Some(chip) => *chip,
         }
-        self.chips[n]
     }
 
     // The chain with chip i replaced; past the eight records nothing is.
     pub(crate) fn with_chip(mut self, i: u8, chip: Chip) -> Chain
         ensures { result ≡ with_chip i chip self }
     {
-        let n = i as usize;
-        if n >= 8 {
-            return self;
+        if let Some(place) = self.chips.get_mut(i as usize) {
+            *place = chip;
         }
-        self.chips[n] = chip;
         self
     }
 
-    // The chain with its own fields set: Enable In, IACK and the response. (The record is written anew.)
-    pub(crate) fn with_own(self, enable: bool, iack: bool, response: Response) -> Chain
+    // The chain with its own fields set: Enable In, IACK and the response.
+    pub(crate) fn with_own(mut self, enable: bool, iack: bool, response: Response) -> Chain
         ensures { result ≡ with_own enable iack response self }
     {
-        let chips = self.chips;
-        Chain {
-            count: self.count,
-            chips: chips,
-            enable: enable,
-            iack: iack,
-            response: response,
-            event: self.event,
-        }
+        self.enable = enable;
+        self.iack = iack;
+        self.response = response;
+        self
     }
 
     // The chain with one more accepted event counted.
@@ -77,11 +68,9 @@ impl Chain {
     pub(crate) fn accepted(self, change: Change) -> Outcome
         ensures { result ≡ accepted change self }
     {
-        let answer = change.answer;
-        let chain = self.applied(change).counted();
         Outcome {
-            answer: answer,
-            chain: chain,
+            answer: change.answer,
+            chain: self.applied(change).counted(),
         }
     }
 
@@ -90,7 +79,7 @@ impl Chain {
         ensures { result ≡ refused why self }
     {
         Outcome {
-            answer: Answer::Refused(why),
+            answer: Err(why),
             chain: self,
         }
     }

@@ -19,8 +19,5 @@ pub const LENGTH: usize = 528;
 pub fn is_image(image: &[u8]) -> bool
     ensures { result ≡ is_image image.now }
 {
-    if image.len() != LENGTH {
-        return false;
-    }
-    is_head(image) & has_records(image)
+    image.len() == LENGTH && is_head(image) & has_records(image)
 }

@@ -6,7 +6,6 @@ use crate::places::{
     COUNT, ENABLE, EVENT_HIGH, EVENT_LOW, IACK, RECORD, RECORDS, RESPONSE, RESPONSE_CHANNEL,
     RESPONSE_CHIP, RESPONSE_DELIVERED, RESPONSE_LENGTH, RESPONSE_LEVEL,
 };
-use crate::writing::put_bytes;
 use chain::Chain;
 use chip::{Chip, Destination};
 use response::{Reply, Response};
@@ -28,8 +27,8 @@ fn counts_in(r: &[u8]) -> [u8; 8]
     requires { 64 ≤ length r.now }
     ensures { result ≡ take 8 (drop 16 r.now) }
 {
-    let mut counts = [0u8; 8];
-    put_bytes(&mut counts, 0, &r[16..24]);
+    let mut counts = [0; 8];
+    counts.copy_from_slice(&r[16..24]);
     counts
 }
 
@@ -38,8 +37,8 @@ fn memory_in(r: &[u8]) -> [u8; 32]
     requires { 64 ≤ length r.now }
     ensures { result ≡ take 32 (drop 32 r.now) }
 {
-    let mut memory = [0u8; 32];
-    put_bytes(&mut memory, 0, &r[32..64]);
+    let mut memory = [0; 32];
+    memory.copy_from_slice(&r[32..64]);
     memory
 }
 
@@ -68,17 +67,13 @@ pub fn response_in(image: &[u8]) -> Response
     requires { 16 ≤ length image.now }
     ensures { result ≡ response_in image.now }
 {
-    if image[RESPONSE] == 1 {
-        Response::UnderWay(Reply {
-            chip: image[RESPONSE_CHIP],
-            channel: image[RESPONSE_CHANNEL],
-            level: image[RESPONSE_LEVEL],
-            length: image[RESPONSE_LENGTH],
-            delivered: image[RESPONSE_DELIVERED],
-        })
-    } else {
-        Response::Idle
-    }
+    (image[RESPONSE] == 1).then_some(Reply {
+        chip: image[RESPONSE_CHIP],
+        channel: image[RESPONSE_CHANNEL],
+        level: image[RESPONSE_LEVEL],
+        length: image[RESPONSE_LENGTH],
+        delivered: image[RESPONSE_DELIVERED],
+    })
 }
 
 // The event number: its low byte first.
@@ -93,11 +88,9 @@ fn chips_in(image: &[u8]) -> [Chip; 8]
     requires { length image.now ≡ 528 }
     ensures { result ≡ chips_in 8 (drop 16 image.now) }
 {
-    let zero = Chip::zero();
-    let mut chips = [zero; 8];
-    for i in 0usize..8 {
-        let at = RECORDS + RECORD * i;
-        chips[i] = chip_in(&image[at..]);
+    let mut chips = [Chip::zero(); 8];
+    for (i, chip) in chips.iter_mut().enumerate() {
+        *chip = chip_in(&image[RECORDS + RECORD * i..]);
     }
     chips
 }
@@ -107,14 +100,12 @@ pub fn chain_in(image: &[u8]) -> Chain
     requires { length image.now ≡ 528 }
     ensures { result ≡ chain_in image.now }
 {
-    let chips = chips_in(image);
-    let response = response_in(image);
     Chain {
         count: image[COUNT],
-        chips: chips,
+        chips: chips_in(image),
         enable: image[ENABLE] == 1,
         iack: image[IACK] == 1,
-        response: response,
+        response: response_in(image),
         event: event_of(image[EVENT_LOW], image[EVENT_HIGH]),
     }
 }

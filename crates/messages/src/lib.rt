@@ -86,8 +86,7 @@ fn put_hint(to: &mut [u8], at: usize, expected: Expected, found: &[u8]) -> usize
 {
     match expected {
         Expected::Shorter => at,
-        Expected::TheStart => put_name_hint(to, at, found),
-        Expected::AnEvent => put_name_hint(to, at, found),
+        Expected::TheStart | Expected::AnEvent => put_name_hint(to, at, found),
         Expected::Wanted(_, argument) => put_number_hint(to, at, argument, found),
     }
 }
@@ -168,13 +167,10 @@ fn put_form(to: &mut [u8], at: usize, kind: u8) -> usize
     ensures { (to.new, result) ≡ written (to.old, at) (joined (form_parts kind (form_of kind))) }
 {
     let form = form_of(kind);
-    let first = form.chip;
-    let second = form.channel;
-    let third = form.value;
     let next = put_name(to, at, kind);
-    let next = put_slot(to, next, first);
-    let next = put_slot(to, next, second);
-    put_slot(to, next, third)
+    let next = put_slot(to, next, form.chip);
+    let next = put_slot(to, next, form.channel);
+    put_slot(to, next, form.value)
 }
 
 // An argument's name, and what to write for it.

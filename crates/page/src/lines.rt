@@ -3,6 +3,7 @@ ghost use Rattle.std.specs.Prelude.{◌≡◌};
 ghost use Rattle.page.specs.Page.{gint_field, heading, chip_pins, chain_pins, pins_parts, request_bytes, state_fields, registers_parts, pins_line, registers_line};
 ghost use Rattle.text.specs.Written.{joined, written};
 
+use refusal::is_accepted;
 use text::put::{put, put_byte_field, put_field};
 use views::{PinView, Pins, RegisterView, Registers};
 
@@ -10,10 +11,8 @@ use views::{PinView, Pins, RegisterView, Registers};
 pub(crate) fn put_pins_line(to: &mut [u8], at: usize, i: u8, view: PinView) -> usize
     ensures { (to.new, result) ≡ written (to.old, at) (pins_line i view) }
 {
-    let verdict = view.verdict;
-    let pins = view.picture;
-    if verdict.is_accepted() {
-        put_pins(to, at, i, pins)
+    if is_accepted(view.verdict) {
+        put_pins(to, at, i, view.picture)
     } else {
         at
     }
@@ -23,10 +22,8 @@ pub(crate) fn put_pins_line(to: &mut [u8], at: usize, i: u8, view: PinView) -> u
 pub(crate) fn put_registers_line(to: &mut [u8], at: usize, i: u8, view: RegisterView) -> usize
     ensures { (to.new, result) ≡ written (to.old, at) (registers_line i view) }
 {
-    let verdict = view.verdict;
-    let registers = view.table;
-    if verdict.is_accepted() {
-        put_registers(to, at, i, registers)
+    if is_accepted(view.verdict) {
+        put_registers(to, at, i, view.table)
     } else {
         at
     }

@@ -55,8 +55,7 @@ pub fn form_of(kind: u8) -> Form
         0 => taking(Argument::Count, Argument::End, Argument::Fill),
         1 => taking(Argument::Chip, Argument::End, Argument::Code),
         2 => taking(Argument::Chip, Argument::End, Argument::Byte),
-        3 => taking(Argument::Chip, Argument::End, Argument::End),
-        4 => taking(Argument::Chip, Argument::End, Argument::End),
+        3 | 4 => taking(Argument::Chip, Argument::End, Argument::End),
         5 => taking(Argument::Chip, Argument::Channel, Argument::Level),
         6 => taking(Argument::End, Argument::End, Argument::Level),
         _ => taking(Argument::End, Argument::End, Argument::End),
@@ -67,9 +66,9 @@ fn taking(chip: Argument, channel: Argument, value: Argument) -> Form
     ensures { result ≡ record { chip = chip; channel = channel; value = value } }
 {
     Form {
-        chip: chip,
-        channel: channel,
-        value: value,
+        chip,
+        channel,
+        value,
     }
 }
 
@@ -78,15 +77,6 @@ impl Argument {
     pub fn number(self) -> u8
         ensures { result ≡ argument_number self }
     {
-        match self {
-            Argument::Count => 0,
-            Argument::Fill => 1,
-            Argument::Chip => 2,
-            Argument::Code => 3,
-            Argument::Byte => 4,
-            Argument::Channel => 5,
-            Argument::Level => 6,
-            Argument::End => 7,
-        }
+        self as u8
     }
 }

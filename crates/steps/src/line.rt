@@ -5,8 +5,7 @@ ghost use Rattle.steps.specs.Lines.{text_end, is_over, value_of, words as Lines�
 
 use crate::kinds::{KINDS, START, form_of, kind_of};
 use crate::{Argument, Expected, Step};
-use event::Listed;
-use text::Number;
+use event::{Event, Numbered};
 use text::numbers::{decimal_in, hex_in};
 use text::words::{word_at, word_end, word_start};
 
@@ -106,16 +105,16 @@ fn read_as(kind: u8, rest: &[u8]) -> Step
     ensures { result ≡ read_as kind rest.now }
 {
     let form = form_of(kind);
-    let one = form.chip;
-    let two = form.channel;
-    let three = form.value;
-    let behind_one = &rest[argument_end(one, rest)..];
-    let behind_two = &behind_one[argument_end(two, behind_one)..];
-    let behind_three = &behind_two[argument_end(three, behind_two)..];
-    let chip = value_of(one, rest);
-    let channel = value_of(two, behind_one);
-    let value = value_of(three, behind_two);
-    step_from(kind, chip, channel, value, is_over(behind_three))
+    let behind_chip = &rest[argument_end(form.chip, rest)..];
+    let behind_channel = &behind_chip[argument_end(form.channel, behind_chip)..];
+    let behind_value = &behind_channel[argument_end(form.value, behind_channel)..];
+    step_from(
+        kind,
+        value_of(form.chip, rest),
+        value_of(form.channel, behind_chip),
+        value_of(form.value, behind_channel),
+        is_over(behind_value),
+    )
 }
 
 // Where the first argument of a line ends: its first word, or no word at all.
@@ -123,15 +122,14 @@ fn argument_end(argument: Argument, line: &[u8]) -> usize
     ensures upper_bound { result ≤ length line.now }
     ensures value { result ≡ argument_end argument line.now }
 {
-    if argument.number() == 7 {
-        0
-    } else {
-        word_end(line)
+    match argument {
+        Argument::End => 0,
+        _ => word_end(line),
     }
 }
 
 // What the first word of a line says as an argument.
-fn value_of(argument: Argument, line: &[u8]) -> Number
+fn value_of(argument: Argument, line: &[u8]) -> Option<u8>
     ensures { result ≡ value_of argument (word line.now) }
 {
     let start = word_start(line);
@@ -139,48 +137,43 @@ fn value_of(argument: Argument, line: &[u8]) -> Number
     said(argument, &line[start..end])
 }
 
-fn said(argument: Argument, found: &[u8]) -> Number
+fn said(argument: Argument, found: &[u8]) -> Option<u8>
     ensures { result ≡ value_of argument found.now }
 {
     match argument {
-        Argument::Count => decimal_in(found),
-        Argument::Fill => hex_in(found),
-        Argument::Chip => decimal_in(found),
-        Argument::Code => hex_in(found),
-        Argument::Byte => hex_in(found),
-        Argument::Channel => decimal_in(found),
-        Argument::Level => decimal_in(found),
-        Argument::End => Number::Value(0),
+        Argument::Count | Argument::Chip | Argument::Channel | Argument::Level => decimal_in(found),
+        Argument::Fill | Argument::Code | Argument::Byte => hex_in(found),
+        Argument::End => Some(0),
     }
 }
 
 // The step that some arguments say, or the first of them that is wrong.
-fn step_from(kind: u8, chip: Number, channel: Number, value: Number, over: bool) -> Step
+fn step_from(
+    kind: u8,
+    chip: Option<u8>,
+    channel: Option<u8>,
+    value: Option<u8>,
+    over: bool,
+) -> Step
     ensures { result ≡ step_from kind chip channel value over }
 {
     let form = form_of(kind);
-    let one = form.chip;
-    let two = form.channel;
-    let three = form.value;
-    let channel_place = 1 + words(one);
-    let value_place = channel_place + words(two);
-    let end_place = value_place + words(three);
-    match chip {
-        Number::Wrong => Step::Malformed(Expected::Wanted(kind, one), 1),
-        Number::Value(a) => match channel {
-            Number::Wrong => Step::Malformed(Expected::Wanted(kind, two), channel_place),
-            Number::Value(b) => match value {
-                Number::Wrong => Step::Malformed(Expected::Wanted(kind, three), value_place),
-                Number::Value(c) => {
-                    if over {
-                        make(kind, a, b, c)
-                    } else {
-                        Step::Malformed(Expected::Wanted(kind, Argument::End), end_place)
-                    }
-                }
-            },
-        },
+    let channel_place = 1 + words(form.chip);
+    let value_place = channel_place + words(form.channel);
+    let end_place = value_place + words(form.value);
+    let Some(a) = chip else {
+        return Step::Malformed(Expected::Wanted(kind, form.chip), 1);
+    };
+    let Some(b) = channel else {
+        return Step::Malformed(Expected::Wanted(kind, form.channel), channel_place);
+    };
+    let Some(c) = value else {
+        return Step::Malformed(Expected::Wanted(kind, form.value), value_place);
+    };
+    if !over {
+        return Step::Malformed(Expected::Wanted(kind, Argument::End), end_place);
     }
+    make(kind, a, b, c)
 }
 
 // How many words of a line an argument is: one, or none where it is the end.
@@ -188,7 +181,10 @@ fn words(argument: Argument) -> u8
     ensures upper_bound { result ≤ 1 }
     ensures value { result ≡ Lines·words argument }
 {
-    if argument.number() == 7 { 0 } else { 1 }
+    match argument {
+        Argument::End => 0,
+        _ => 1,
+    }
 }
 
 // The step of a kind with its numbers: the count and the fill of a start, or the event that they are in a list of numbers.
@@ -198,9 +194,14 @@ fn make(kind: u8, chip: u8, channel: u8, value: u8) -> Step
     if kind == START {
         return Step::Start(chip, value);
     }
-    let listed = Listed::of(kind, chip, channel, value);
-    match listed {
-        Listed::Known(event) => Step::Happens(event),
-        Listed::Unknown => Step::Malformed(Expected::AnEvent, 0),
+    let numbers = Numbered {
+        kind,
+        chip,
+        channel,
+        value,
+    };
+    match Event::try_from(numbers) {
+        Ok(event) => Step::Happens(event),
+        Err(_) => Step::Malformed(Expected::AnEvent, 0),
     }
 }
