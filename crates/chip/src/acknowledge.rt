@@ -8,6 +8,7 @@ use crate::data::memory_place;
 
 impl Chip {
     // The chip answers a channel: its IRR bit clears, its ISR bit sets, the pointer becomes the channel.
+    #[tactic(auto, unfolding(crate::proofs::Rules::chip_fields, crate::specs::Acknowledge::answered))]
     pub fn fall(mut self, channel: u8) -> Chip
         ensures { result ≡ answered channel self }
     {
@@ -48,6 +49,7 @@ impl Chip {
     }
 
     // The response of a channel is over: its ISR bit clears if its ACR bit is then set.
+    #[tactic(auto, unfolding(crate::proofs::Rules::chip_fields, crate::specs::Acknowledge::finished))]
     pub fn rise(mut self, channel: u8) -> Chip
         ensures { result ≡ finished channel self }
     {

@@ -10,6 +10,7 @@ use figure4::Command;
 
 impl Chip {
     // A command write: what its row says; an undefined one changes nothing.
+    #[tactic(auto, unfolding(crate::specs::Command::commanded))]
     pub fn commanded(self, code: u8) -> Chip
         ensures { result ≡ commanded (figure4 code) code self }
     {
@@ -20,6 +21,7 @@ impl Chip {
     }
 
     // A command write, with the code's row: it ends the earlier destination, and the row is carried out.
+    #[tactic(auto, unfolding(crate::specs::Command::commanded))]
     fn command(self, row: Command, code: u8) -> Chip
         requires { figure4 code ≡ Ok row }
         ensures { result ≡ commanded (Ok row) code self }
@@ -28,6 +30,7 @@ impl Chip {
     }
 
     // The code becomes the last command, and its row is carried out.
+    #[tactic(auto, using(figure4::proofs::Figure4::preselected), unfolding(crate::proofs::Rules::chip_fields, crate::specs::Command::obey))]
     fn obey(mut self, row: Command, code: u8) -> Chip
         requires { figure4 code ≡ Ok row }
         ensures { result ≡ obey row (with_command code self) }
@@ -79,6 +82,7 @@ impl Chip {
     }
 
     // A level chosen, at place 0, with its count code.
+    #[tactic(auto, unfolding(crate::proofs::Rules::chip_fields, crate::specs::Command::obey))]
     fn preselect(mut self, count: u8, level: u8) -> Chip
         requires { level < 8 }
         ensures { result ≡ obey (PreselectLevel count level) self }

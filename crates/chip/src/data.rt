@@ -35,6 +35,7 @@ impl Destination {
 
 impl Chip {
     // The byte count of a level: its code plus one.
+    #[tactic(auto, using(crate::proofs::Soundness::code_le))]
     pub(crate) fn byte_count(self, level: u8) -> u8
         requires sound_chip { chip_sound self ≡ true }
         requires level_bound { level < 8 }
@@ -68,6 +69,7 @@ impl Chip {
     }
 
     // A data write: IMR and ACR may be written repeatedly; a level takes the byte at its next place.
+    #[tactic(auto, using(crate::proofs::Soundness::place_le), unfolding(crate::proofs::Rules::chip_fields, crate::specs::Data::data_written))]
     pub fn data(mut self, byte: u8) -> Chip
         requires { chip_sound self ≡ true }
         ensures { result ≡ data_written self.destination byte self }
@@ -82,6 +84,7 @@ impl Chip {
     }
 
     // The byte at a place of a level, and the place moved on.
+    #[tactic(auto, unfolding(crate::proofs::Rules::chip_fields, crate::specs::Data::data_written))]
     fn at_level(mut self, level: u8, place: u8, byte: u8) -> Chip
         requires { place < 255 }
         ensures { result ≡ data_written (Level level place) byte self }

@@ -6,6 +6,7 @@ use crate::{Chip, Destination};
 
 impl Chip {
     // The chip of a refused start: all zero, without destination.
+    #[tactic(auto, unfolding(crate::proofs::Rules::chip_fields))]
     pub fn zero() -> Chip
         ensures { result ≡ zero_chip }
     {
@@ -25,6 +26,7 @@ impl Chip {
     }
 
     // The chip with another destination.
+    #[tactic(auto, unfolding(crate::proofs::Rules::chip_fields))]
     pub(crate) fn with_destination(mut self, destination: Destination) -> Chip
         ensures { result ≡ with_destination destination self }
     {

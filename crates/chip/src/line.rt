@@ -40,6 +40,7 @@ fn latched(irr: u8, channel: u8, active: bool) -> u8
 
 impl Chip {
     // The line of a channel takes a level.
+    #[tactic(auto, unfolding(crate::proofs::Rules::chip_fields, crate::specs::Line::line_set))]
     pub fn line(mut self, channel: u8, high: bool) -> Chip
         ensures { result ≡ line_set channel high self }
     {

@@ -13,6 +13,7 @@ impl Chip {
     pub const LINES: u8 = 255;
 
     // The power-up chip: as after reset, with all lines high, the fill in the response memory, and the fill modulo 4 in every count code.
+    #[tactic(auto, unfolding(crate::proofs::Rules::chip_fields, crate::specs::Reset::power_up))]
     pub fn power_up(fill: u8) -> Chip
         ensures { result ≡ power_up fill }
     {
@@ -24,6 +25,7 @@ impl Chip {
     }
 
     // Reset clears all registers but IMR, which becomes 255; pointer 7, no destination. Memory, counts and lines stay.
+    #[tactic(auto, unfolding(crate::proofs::Rules::chip_fields, crate::specs::Reset::reset))]
     pub(crate) fn reset(mut self) -> Chip
         ensures { result ≡ reset self }
     {

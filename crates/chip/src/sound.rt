@@ -18,6 +18,7 @@ impl Destination {
 
 impl Chip {
     // Codes at most 3, pointer at most 7, and the destination.
+    #[tactic(auto, unfolding(crate::specs::Sound::chip_sound))]
     pub fn is_sound(self) -> bool
         ensures { result ≡ chip_sound self }
     {
@@ -25,6 +26,7 @@ impl Chip {
     }
 
     // Each of the eight codes is at most 3.
+    #[tactic(auto, unfolding(crate::specs::Sound::codes_sound))]
     fn has_sound_codes(self) -> bool
         ensures { result ≡ codes_sound self.counts }
     {

@@ -35,6 +35,7 @@ impl Chip {
     }
 
     // The status byte where the chip's EI is at a level.
+    #[tactic(auto, using(search::proofs::Order::candidate_lt))]
     pub fn status(self, ei: bool) -> u8
         ensures { result ≡ status_byte self ei }
     {

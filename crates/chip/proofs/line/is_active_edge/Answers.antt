@@ -1,8 +1,0 @@
--- `chip::line::is_active_edge` meets its contract.
-use Rattle.chip.proofs.line.is_active_edge.Goals as goal
-
-pub returns-then-is_set : goal.returns-then-is_set
-returns-then-is_set c = simp (← c.is_set.ensures, c.if-is_set.true)
-
-pub returns-else-is_set : goal.returns-else-is_set
-returns-else-is_set c = simp (← c.is_set.ensures, c.if-is_set.false)
