@@ -16,6 +16,7 @@ use response::held::ends_response;
 
 impl Change {
     // Nothing changes, and no byte is driven or read.
+    #[tactic(auto, unfolding(crate::specs::Change::nothing))]
     pub(crate) fn nothing() -> Change
         ensures { result ≡ nothing }
     {
@@ -27,6 +28,7 @@ impl Change {
     }
 
     // Another answer.
+    #[tactic(auto, unfolding(crate::specs::Change::answering))]
     pub(crate) fn answering(mut self, answer: Answer) -> Change
         ensures { result ≡ answering answer self }
     {
@@ -35,6 +37,7 @@ impl Change {
     }
 
     // Chip i is replaced.
+    #[tactic(auto, unfolding(crate::specs::Change::replacing))]
     pub(crate) fn replacing(mut self, i: u8, chip: Chip) -> Change
         ensures { result ≡ replacing i chip self }
     {
@@ -43,6 +46,7 @@ impl Change {
     }
 
     // The chain's own fields are set.
+    #[tactic(auto, unfolding(crate::specs::Change::setting))]
     pub(crate) fn setting(mut self, enable: bool, iack: bool, response: Response) -> Change
         ensures { result ≡ setting enable iack response self }
     {
@@ -57,6 +61,7 @@ impl Change {
 
 impl Seen {
     // A command write. A reset of the responding chip ends its response.
+    #[tactic(auto, unfolding(crate::specs::Decided::decided))]
     pub fn command(self, i: u8, code: u8) -> Change
         ensures { result ≡ decided (Command i code) self }
     {
@@ -69,6 +74,7 @@ impl Seen {
     }
 
     // A data write.
+    #[tactic(auto, unfolding(crate::specs::Decided::decided))]
     pub fn data_write(self, i: u8, byte: u8) -> Change
         requires { chip_sound self.chip ≡ true }
         ensures { result ≡ decided (Data i byte) self }
@@ -77,6 +83,7 @@ impl Seen {
     }
 
     // A status read.
+    #[tactic(auto, unfolding(crate::specs::Decided::decided))]
     pub fn status(self, i: u8) -> Change
         ensures { result ≡ decided (Status i) self }
     {
@@ -84,6 +91,7 @@ impl Seen {
     }
 
     // A data read.
+    #[tactic(auto, unfolding(crate::specs::Decided::decided))]
     pub fn read(self, i: u8) -> Change
         ensures { result ≡ decided (Read i) self }
     {
@@ -91,6 +99,7 @@ impl Seen {
     }
 
     // A line takes a level.
+    #[tactic(auto, unfolding(crate::specs::Decided::decided))]
     pub fn line(self, i: u8, channel: u8, level: u8) -> Change
         ensures { result ≡ decided (Line i channel level) self }
     {
@@ -98,6 +107,7 @@ impl Seen {
     }
 
     // The chain's Enable In takes a level.
+    #[tactic(auto, unfolding(crate::specs::Decided::decided))]
     pub fn enable(self, level: u8) -> Change
         ensures { result ≡ decided (Enable level) self }
     {

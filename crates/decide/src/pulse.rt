@@ -21,6 +21,7 @@ impl Seen {
     }
 
     // IACK is low, and the responding chip drives the next byte, read from its memory now.
+    #[tactic(auto, unfolding(crate::specs::Pulse::driving))]
     fn driving(self, reply: Reply) -> Change
         requires { reply.delivered < 4 }
         ensures { result ≡ driving reply self }
@@ -32,6 +33,7 @@ impl Seen {
     }
 
     // The selected chip answers its channel and drives the first byte.
+    #[tactic(auto, unfolding(crate::specs::Pulse::first_pulse))]
     fn answer(self, reply: Reply) -> Change
         requires { reply.delivered < 4 }
         ensures { result ≡ first_pulse (Some reply) self }
@@ -64,6 +66,7 @@ impl Seen {
     }
 
     // After the last byte the response ends, and the ISR bit of its channel clears if its ACR bit is then set.
+    #[tactic(auto, unfolding(crate::specs::Pulse::risen_after))]
     fn risen_after(self, reply: Reply) -> Change
         ensures { result ≡ risen_after (eqb reply.delivered reply.length) reply self }
     {
@@ -76,6 +79,7 @@ impl Seen {
     }
 
     // IACK rises: after a stall nothing more changes.
+    #[tactic(auto, unfolding(crate::specs::Decided::decided, crate::specs::Pulse::risen))]
     pub fn rise(self) -> Change
         ensures { result ≡ decided Rise self }
     {

@@ -27,6 +27,7 @@ impl Walk {
     }
 
     // Past the next chip.
+    #[tactic(auto, unfolding(crate::specs::Walk::past))]
     pub fn past(self, chip: Chip, response: Response) -> Walk
         requires { self.at < 255 }
         ensures { result ≡ past chip response self }
