@@ -20,6 +20,7 @@ impl Chain {
     }
 
     // The chain's own fields, and a chip with its number and its Enable In.
+    #[tactic(auto, unfolding(crate::specs::Seen::seen_at))]
     fn seen_at(self, at: u8, ei: bool) -> Seen
         ensures { result ≡ seen_at at ei self }
     {
@@ -35,6 +36,7 @@ impl Chain {
     }
 
     // The chip that is replaced, if one is.
+    #[tactic(auto, unfolding(crate::specs::Apply::replaced_in))]
     fn replaced(self, change: Change) -> Chain
         ensures { result ≡ replaced_in change self }
     {
@@ -45,6 +47,7 @@ impl Chain {
     }
 
     // The chain's own fields, if they are set.
+    #[tactic(auto, unfolding(crate::specs::Apply::set_in))]
     fn set(self, change: Change) -> Chain
         ensures { result ≡ set_in change self }
     {

@@ -13,6 +13,7 @@ use response::Response;
 
 impl Chain {
     // The chain of a refused start: count 0, all zero, without destination or response.
+    #[tactic(auto, unfolding(crate::specs::Fields::zero_chain))]
     pub(crate) fn zero() -> Chain
         ensures { result ≡ zero_chain }
     {
@@ -27,6 +28,7 @@ impl Chain {
     }
 
     // Chip i; past the eight records, a chip that is all zero.
+    #[tactic(auto, unfolding(crate::specs::Fields::chip_at))]
     pub fn chip_at(self, i: u8) -> Chip
         ensures { result ≡ chip_at self i }
     {
@@ -40,9 +42,11 @@ impl Chain {
     pub(crate) fn with_chip(mut self, i: u8, chip: Chip) -> Chain
         ensures { result ≡ with_chip i chip self }
     {
-        if let Some(place) = self.chips.get_mut(i as usize) {
-            *place = chip;
+        let n = i as usize;
+        if n >= 8 {
+            return self;
         }
+        self.chips[n] = chip;
         self
     }
 
@@ -65,6 +69,7 @@ impl Chain {
     }
 
     // What an accepted event hands back: its answer, and the chain with what it does applied and counted.
+    #[tactic(auto, unfolding(crate::specs::Events::accepted))]
     pub(crate) fn accepted(self, change: Change) -> Outcome
         ensures { result ≡ accepted change self }
     {

@@ -13,6 +13,7 @@ pub(crate) fn is_count(count: u8) -> bool
 
 impl Chain {
     // Whether the chain is sound: count 1 to 8, each chip in the count, and the response.
+    #[tactic(auto, unfolding(crate::specs::Sound::sound))]
     pub fn is_sound(self) -> bool
         ensures { result ≡ sound self }
     {
@@ -24,6 +25,11 @@ impl Chain {
     fn has_sound_chips(self) -> bool
         ensures { result ≡ chips_sound self }
     {
-        (0..self.count).all(|i| self.chip_at(i).is_sound())
+        for i in 0..self.count {
+            if !self.chip_at(i).is_sound() {
+                return false;
+            }
+        }
+        true
     }
 }

@@ -26,6 +26,7 @@ impl Chain {
     }
 
     // All eight records are the power-up chip; EI and IACK high, event number 0, no response.
+    #[tactic(auto, unfolding(crate::specs::Start::started))]
     fn started(count: u8, fill: u8) -> Chain
         ensures { result ≡ started count fill }
     {

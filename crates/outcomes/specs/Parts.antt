@@ -1,7 +1,6 @@
 -- The same of every other function of the model that another crate can see and that takes every input: the parts of which the calls are made. How to read a field:
 -- `Outcomes`. Those that ask for something are listed, each with its ground, in docs/PROMISES.md; the gate sees that every function is in one of the two places.
-use Rattle.std.specs.Prelude.{Option}
-use Rattle.std.specs.Prelude.{Bool, not, List, [], ◌∷◌, ℕ, ◌+◌, ◌*◌}
+use Rattle.std.specs.Prelude.{Option, Bool, not, List, [], ◌∷◌, ℕ, ◌+◌, ◌*◌}
 use contract.Lifetimes.{Lfts}
 use Rattle.std.specs.Borrow.{Bor}
 use Rattle.bits.proofs.digit_of.Reads as digit_of

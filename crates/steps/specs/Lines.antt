@@ -1,6 +1,5 @@
 -- What a line of an event list says.
-use Rattle.std.specs.Prelude.{Option, Some, None, Ok, Err}
-use Rattle.std.specs.Prelude.{Bool, true, false, cond, not, ◌&&◌, ◌||◌, List, ℕ, ◌+◌, ◌-◌, eqb, ltb, length, get_or, take, drop}
+use Rattle.std.specs.Prelude.{Some, None, Ok, Err, Bool, true, false, cond, not, ◌&&◌, ◌||◌, List, ℕ, ◌+◌, ◌-◌, eqb, ltb, length, get_or, take, drop}
 use Rattle.event.specs.Numbers.{listed}
 use Rattle.event.specs.Numbers.{Listed}
 use Rattle.text.specs.Words.{word, behind, word_at, decimal_in, hex_in, word_start, word_end}
