@@ -8,7 +8,12 @@ use crate::places::{ENABLE, IACK, RECORD, RECORDS};
 fn is_zero(bytes: &[u8]) -> bool
     ensures { result ≡ is_zero bytes.now }
 {
-    bytes.iter().all(|byte| *byte == 0)
+    for k in 0usize..bytes.len() {
+        if bytes[k] != 0 {
+            return false;
+        }
+    }
+    true
 }
 
 // Whether six bytes are a response.
@@ -48,5 +53,11 @@ pub(crate) fn has_records(image: &[u8]) -> bool
     requires { length image.now ≡ 528 }
     ensures { result ≡ records_form image.now }
 {
-    (0..8).all(|i| is_record(&image[RECORDS + RECORD * i..]))
+    for i in 0usize..8 {
+        let at = RECORDS + RECORD * i;
+        if !is_record(&image[at..]) {
+            return false;
+        }
+    }
+    true
 }

@@ -19,5 +19,8 @@ pub const LENGTH: usize = 528;
 pub fn is_image(image: &[u8]) -> bool
     ensures { result ≡ is_image image.now }
 {
-    image.len() == LENGTH && is_head(image) & has_records(image)
+    if image.len() != LENGTH {
+        return false;
+    }
+    is_head(image) & has_records(image)
 }

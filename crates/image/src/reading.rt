@@ -6,6 +6,7 @@ use crate::places::{
     COUNT, ENABLE, EVENT_HIGH, EVENT_LOW, IACK, RECORD, RECORDS, RESPONSE, RESPONSE_CHANNEL,
     RESPONSE_CHIP, RESPONSE_DELIVERED, RESPONSE_LENGTH, RESPONSE_LEVEL,
 };
+use crate::writing::put_bytes;
 use chain::Chain;
 use chip::{Chip, Destination};
 use response::{Reply, Response};
@@ -27,8 +28,8 @@ fn counts_in(r: &[u8]) -> [u8; 8]
     requires { 64 ≤ length r.now }
     ensures { result ≡ take 8 (drop 16 r.now) }
 {
-    let mut counts = [0; 8];
-    counts.copy_from_slice(&r[16..24]);
+    let mut counts = [0u8; 8];
+    put_bytes(&mut counts, 0, &r[16..24]);
     counts
 }
 
@@ -37,8 +38,8 @@ fn memory_in(r: &[u8]) -> [u8; 32]
     requires { 64 ≤ length r.now }
     ensures { result ≡ take 32 (drop 32 r.now) }
 {
-    let mut memory = [0; 32];
-    memory.copy_from_slice(&r[32..64]);
+    let mut memory = [0u8; 32];
+    put_bytes(&mut memory, 0, &r[32..64]);
     memory
 }
 
@@ -67,13 +68,17 @@ pub fn response_in(image: &[u8]) -> Response
     requires { 16 ≤ length image.now }
     ensures { result ≡ response_in image.now }
 {
-    (image[RESPONSE] == 1).then_some(Reply {
-        chip: image[RESPONSE_CHIP],
-        channel: image[RESPONSE_CHANNEL],
-        level: image[RESPONSE_LEVEL],
-        length: image[RESPONSE_LENGTH],
-        delivered: image[RESPONSE_DELIVERED],
-    })
+    if image[RESPONSE] == 1 {
+        Some(Reply {
+            chip: image[RESPONSE_CHIP],
+            channel: image[RESPONSE_CHANNEL],
+            level: image[RESPONSE_LEVEL],
+            length: image[RESPONSE_LENGTH],
+            delivered: image[RESPONSE_DELIVERED],
+        })
+    } else {
+        None
+    }
 }
 
 // The event number: its low byte first.
@@ -88,9 +93,11 @@ fn chips_in(image: &[u8]) -> [Chip; 8]
     requires { length image.now ≡ 528 }
     ensures { result ≡ chips_in 8 (drop 16 image.now) }
 {
-    let mut chips = [Chip::zero(); 8];
-    for (i, chip) in chips.iter_mut().enumerate() {
-        *chip = chip_in(&image[RECORDS + RECORD * i..]);
+    let zero = Chip::zero();
+    let mut chips = [zero; 8];
+    for i in 0usize..8 {
+        let at = RECORDS + RECORD * i;
+        chips[i] = chip_in(&image[at..]);
     }
     chips
 }
@@ -100,12 +107,14 @@ pub fn chain_in(image: &[u8]) -> Chain
     requires { length image.now ≡ 528 }
     ensures { result ≡ chain_in image.now }
 {
+    let chips = chips_in(image);
+    let response = response_in(image);
     Chain {
         count: image[COUNT],
-        chips: chips_in(image),
+        chips: chips,
         enable: image[ENABLE] == 1,
         iack: image[IACK] == 1,
-        response: response_in(image),
+        response: response,
         event: event_of(image[EVENT_LOW], image[EVENT_HIGH]),
     }
 }

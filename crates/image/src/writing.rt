@@ -12,7 +12,9 @@ pub fn put_bytes(to: &mut [u8], at: usize, from: &[u8])
     requires { at + length from.now ≤ length to.old }
     ensures { to.new ≡ over to.old at from.now }
 {
-    to[at..at + from.len()].copy_from_slice(from);
+    for k in 0usize..from.len() {
+        to[at + k] = from[k];
+    }
 }
 
 // A destination's three bytes.
@@ -31,7 +33,8 @@ fn destination_bytes(destination: Destination) -> [u8; 3]
 fn register_bytes(chip: Chip) -> [u8; 16]
     ensures { result ≡ register_bytes chip }
 {
-    let to = destination_bytes(chip.destination);
+    let destination = chip.destination;
+    let to = destination_bytes(destination);
     [
         chip.irr,
         chip.isr,
@@ -57,10 +60,14 @@ pub fn put_chip(r: &mut [u8], chip: Chip)
     requires { length r.old ≡ 64 }
     ensures { r.new ≡ chip_record chip }
 {
-    put_bytes(r, 0, &register_bytes(chip));
-    put_bytes(r, 16, &chip.counts);
-    put_bytes(r, 24, &[0; 8]);
-    put_bytes(r, 32, &chip.memory);
+    let registers = register_bytes(chip);
+    let counts = chip.counts;
+    let zeros = [0u8; 8];
+    let memory = chip.memory;
+    put_bytes(r, 0, &registers);
+    put_bytes(r, 16, &counts);
+    put_bytes(r, 24, &zeros);
+    put_bytes(r, 32, &memory);
 }
 
 // A response's six bytes.
@@ -68,7 +75,7 @@ pub fn response_bytes(response: Response) -> [u8; 6]
     ensures { result ≡ response_bytes response }
 {
     match response {
-        None => [0; 6],
+        None => [0, 0, 0, 0, 0, 0],
         Some(r) => [1, r.chip, r.channel, r.level, r.length, r.delivered],
     }
 }
@@ -77,7 +84,8 @@ pub fn response_bytes(response: Response) -> [u8; 6]
 fn head_of(chain: Chain) -> [u8; 16]
     ensures { result ≡ head chain }
 {
-    let to = response_bytes(chain.response);
+    let response = chain.response;
+    let to = response_bytes(response);
     [
         chain.count,
         bits::digit_of(chain.enable),
@@ -103,9 +111,11 @@ pub fn put_chain(image: &mut [u8], chain: Chain)
     requires { length image.old ≡ 528 }
     ensures { image.new ≡ image_of chain }
 {
-    put_bytes(image, 0, &head_of(chain));
-    for (i, chip) in chain.chips.iter().enumerate() {
+    let head = head_of(chain);
+    put_bytes(image, 0, &head);
+    for i in 0usize..8 {
         let at = RECORDS + RECORD * i;
-        put_chip(&mut image[at..at + RECORD], *chip);
+        let end = at + RECORD;
+        put_chip(&mut image[at..end], chain.chips[i]);
     }
 }
