@@ -1,5 +1,5 @@
 // What an event looks at in an image, and an image with what is decided applied where it lies.
-ghost use Rattle.std.specs.Prelude.{true, ◌≡◌, ◌<◌};
+ghost use Rattle.std.specs.Prelude.{true, IfSome, ◌≡◌, ◌<◌};
 ghost use Rattle.chain.specs.Apply.{replaced_in, set_in, applied};
 ghost use Rattle.chain.specs.Seen.{looked_at};
 ghost use Rattle.chain.specs.Walk.{walked_to};
@@ -55,6 +55,7 @@ pub fn seen_round(image: &[u8], at: u8, ei: bool) -> Seen
 }
 
 // The chip that is replaced, if one is.
+#[tactic(auto, unfolding(chain::specs::Apply::replaced_in))]
 fn replace(image: &mut [u8], change: Change)
     requires image_form { is_image image.old ≡ true }
     requires at_bound { IfSome change.replaced (λ replaced. replaced.at < 8) }
@@ -67,6 +68,7 @@ fn replace(image: &mut [u8], change: Change)
 }
 
 // The chain's own fields, if they are set.
+#[tactic(auto, unfolding(chain::specs::Apply::set_in))]
 fn set(image: &mut [u8], change: Change)
     requires { is_image image.old ≡ true }
     ensures form_after { is_image image.new ≡ true }
