@@ -1,6 +1,6 @@
 // Each event on an image where it lies. An arm for each, so that an event reads and writes no more than it needs: where it looks, its tests and its change are those of
 // `decide`, and no rule stands here.
-ghost use Rattle.std.specs.Prelude.{true, ◌≡◌, ◌<◌};
+ghost use Rattle.std.specs.Prelude.{true, IfSome, ◌≡◌, ◌<◌};
 ghost use Rattle.event.specs.declared.Event.TheVariants.{Command, Data, Status, Read, Line, Enable, Fall, Rise};
 ghost use Rattle.chain.specs.Events.{accepted, event_of};
 ghost use Rattle.chain.specs.Sound.{sound};
