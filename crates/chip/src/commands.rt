@@ -37,9 +37,7 @@ impl Chip {
     {
         self.command = code;
         match row {
-            Command::Reset => {
-                return self.reset();
-            }
+            Command::Reset => return self.reset(),
             Command::ClearIrrAndImr => {
                 self.irr = 0;
                 self.imr = 0;
@@ -68,15 +66,9 @@ impl Chip {
             Command::LoadRead(m) => self.mode = self.mode / 128 * 128 + m % 4 * 32 + self.mode % 32,
             Command::LoadReadAndArm(m) => self.mode = 128 + m % 4 * 32 + self.mode % 32,
             Command::LoadReadAndDisarm(m) => self.mode = m % 4 * 32 + self.mode % 32,
-            Command::PreselectImr => {
-                return self.with_destination(Destination::Imr);
-            }
-            Command::PreselectAcr => {
-                return self.with_destination(Destination::Acr);
-            }
-            Command::PreselectLevel(count, level) => {
-                return self.preselect(count, level);
-            }
+            Command::PreselectImr => self.destination = Destination::Imr,
+            Command::PreselectAcr => self.destination = Destination::Acr,
+            Command::PreselectLevel(count, level) => return self.preselect(count, level),
         }
         self
     }
@@ -87,8 +79,7 @@ impl Chip {
         requires { level < 8 }
         ensures { result ≡ obey (PreselectLevel count level) self }
     {
-        let n = level as usize;
-        self.counts[n] = count;
+        self.counts[usize::from(level)] = count;
         self.with_destination(Destination::Level(level, 0))
     }
 }
