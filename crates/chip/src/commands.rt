@@ -3,30 +3,20 @@ ghost use Rattle.std.specs.Prelude.{◌≡◌, ◌<◌};
 ghost use Rattle.chip.specs.Command.{obey, commanded};
 ghost use Rattle.chip.specs.Fields.{with_command};
 ghost use Rattle.figure4.specs.Figure4.{figure4};
-ghost use Rattle.figure4.specs.declared.Command.TheVariants.{PreselectLevel};
 
 use crate::{Chip, Destination};
 use figure4::Command;
 
 impl Chip {
-    // A command write: what its row says; an undefined one changes nothing.
+    // A command write: it ends the earlier destination, and its row is carried out; an undefined one changes nothing.
     #[tactic(auto, unfolding(crate::specs::Command::commanded))]
     pub fn commanded(self, code: u8) -> Chip
         ensures { result ≡ commanded (figure4 code) code self }
     {
         match Command::try_from(code) {
-            Ok(row) => self.command(row, code),
+            Ok(row) => self.with_destination(Destination::Nowhere).obey(row, code),
             Err(_) => self,
         }
-    }
-
-    // A command write, with the code's row: it ends the earlier destination, and the row is carried out.
-    #[tactic(auto, unfolding(crate::specs::Command::commanded))]
-    fn command(self, row: Command, code: u8) -> Chip
-        requires { figure4 code ≡ Ok row }
-        ensures { result ≡ commanded (Ok row) code self }
-    {
-        self.with_destination(Destination::Nowhere).obey(row, code)
     }
 
     // The code becomes the last command, and its row is carried out.
@@ -37,7 +27,7 @@ impl Chip {
     {
         self.command = code;
         match row {
-            Command::Reset => return self.reset(),
+            Command::Reset => self = self.reset(),
             Command::ClearIrrAndImr => {
                 self.irr = 0;
                 self.imr = 0;
@@ -68,18 +58,12 @@ impl Chip {
             Command::LoadReadAndDisarm(m) => self.mode = m % 4 * 32 + self.mode % 32,
             Command::PreselectImr => self.destination = Destination::Imr,
             Command::PreselectAcr => self.destination = Destination::Acr,
-            Command::PreselectLevel(count, level) => return self.preselect(count, level),
+            // A level is chosen at place 0, with its count code.
+            Command::PreselectLevel(count, level) => {
+                self.counts[usize::from(level)] = count;
+                self.destination = Destination::Level(level, 0);
+            }
         }
         self
-    }
-
-    // A level chosen, at place 0, with its count code.
-    #[tactic(auto, unfolding(crate::proofs::Rules::chip_fields, crate::specs::Command::obey))]
-    fn preselect(mut self, count: u8, level: u8) -> Chip
-        requires { level < 8 }
-        ensures { result ≡ obey (PreselectLevel count level) self }
-    {
-        self.counts[usize::from(level)] = count;
-        self.with_destination(Destination::Level(level, 0))
     }
 }

@@ -13,15 +13,6 @@ pub(crate) fn memory_place(level: u8, place: u8) -> usize
     usize::from(level) * 4 + usize::from(place)
 }
 
-impl Destination {
-    // Whether it is none.
-    pub(crate) fn is_nowhere(self) -> bool
-        ensures { result ≡ has_no_destination self }
-    {
-        matches!(self, Destination::Nowhere)
-    }
-}
-
 impl Chip {
     // The byte count of a level: its code plus one.
     #[tactic(auto, using(crate::proofs::Soundness::code_le))]
@@ -37,7 +28,7 @@ impl Chip {
     pub fn has_no_destination(self) -> bool
         ensures { result ≡ has_no_destination self.destination }
     {
-        self.destination.is_nowhere()
+        matches!(self.destination, Destination::Nowhere)
     }
 
     // The byte count code of a level; 0 where there is no such level.
@@ -67,7 +58,7 @@ impl Chip {
             Destination::Nowhere => (),
             Destination::Imr => self.imr = byte,
             Destination::Acr => self.acr = byte,
-            Destination::Level(level, place) => return self.at_level(level, place, byte),
+            Destination::Level(level, place) => self = self.at_level(level, place, byte),
         }
         self
     }
