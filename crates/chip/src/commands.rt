@@ -20,7 +20,7 @@ impl Chip {
     }
 
     // The code becomes the last command, and its row is carried out.
-    #[tactic(auto, using(figure4::proofs::Figure4::preselected), unfolding(crate::proofs::Rules::chip_fields, crate::specs::Command::obey))]
+    #[tactic(auto, using(figure4::proofs::Figure4::widths), unfolding(crate::proofs::Rules::chip_fields, crate::specs::Command::obey))]
     fn obey(mut self, row: Command, code: u8) -> Chip
         requires { figure4 code ≡ Ok row }
         ensures { result ≡ obey row (with_command code self) }
@@ -51,11 +51,10 @@ impl Chip {
             ),
             Command::ClearIsr => self.isr = 0,
             Command::ClearIsrBit(k) => self.isr = bits::without_bit(self.isr, k),
-            // A remainder by the width of M4 to M0 or M6 M5 leaves them as they are, and shows that the sum is a byte.
-            Command::LoadMode(m) => self.mode = self.mode / 32 * 32 + m % 32,
-            Command::LoadRead(m) => self.mode = self.mode / 128 * 128 + m % 4 * 32 + self.mode % 32,
-            Command::LoadReadAndArm(m) => self.mode = 128 + m % 4 * 32 + self.mode % 32,
-            Command::LoadReadAndDisarm(m) => self.mode = m % 4 * 32 + self.mode % 32,
+            Command::LoadMode(m) => self.mode = self.mode / 32 * 32 + m,
+            Command::LoadRead(m) => self.mode = self.mode / 128 * 128 + m * 32 + self.mode % 32,
+            Command::LoadReadAndArm(m) => self.mode = 128 + m * 32 + self.mode % 32,
+            Command::LoadReadAndDisarm(m) => self.mode = m * 32 + self.mode % 32,
             Command::PreselectImr => self.destination = Destination::Imr,
             Command::PreselectAcr => self.destination = Destination::Acr,
             // A level is chosen at place 0, with its count code.
