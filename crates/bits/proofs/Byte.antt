@@ -5,7 +5,8 @@ use mathlib.Core.Bool.{Bool, false, not, ◌&&◌, ◌||◌, beq}
 use Prim.Native.Nat.{ℕ, ◌-◌, ◌*◌, ◌/◌, ◌%◌, ◌^◌, ◌≤◌, ◌<◌}
 use native.Mathlib.Nat.{mod-lt, div-eq_of_lt, lt_of_lt_of_le}
 use lib.Dec.{T, eqb, eqb→eq, lit<}
-use lib.Bits.{bit_and, bit_or, and_shr, and_mod, or_shr, or_mod}
+use lib.Bits.{bit_and, bit_or, and_le_l, and_shr, and_mod, or_shr, or_mod}
+use native.Mathlib.Omega.{arith}
 use lib.Count.{ones, ones_in}
 use lib.Pow.{pow_mono}
 use borrow.Author.Tests.{lt-ltb}
@@ -73,7 +74,7 @@ pub bit-waiting : (irr imr k : ℕ) → imr < 256 → k < 8 → bit (bit_and irr
 bit-waiting irr imr k hm hk = bit-and irr (255 - imr) k ∙ ap (λ (b : Bool). bit irr k && b) (bit_not imr k hm hk)
 
 -- their number is a sum over eight channels
-pub waiting_sum : (irr imr : ℕ) → bit_and irr (255 - imr) < 256 → imr < 256 → ones (bit_and irr (255 - imr)) ≡ waiting irr imr
-waiting_sum irr imr h hm =
-    ones_sum (bit_and irr (255 - imr)) h
+pub waiting_sum : (irr imr : ℕ) → irr < 256 → imr < 256 → ones (bit_and irr (255 - imr)) ≡ waiting irr imr
+waiting_sum irr imr hi hm =
+    ones_sum (bit_and irr (255 - imr)) (omega (arith, and_le_l irr (255 - imr)))
     ∙ how_many-same 8 (bit (bit_and irr (255 - imr))) (is_waiting irr imr) (λ k l. bit-waiting irr imr k hm l)

@@ -7,33 +7,25 @@ ghost use Rattle.bits.specs.Below.{digit};
 ghost use Rattle.bits.specs.Byte.{bit, with_bit, without_bit, waiting};
 
 // Whether bit `k` of `x` is set.
+#[tactic(auto, using(crate::proofs::Byte::no_bit))]
 pub fn is_set(x: u8, k: u8) -> bool
     ensures { result ≡ bit x k }
 {
-    if k >= 8 {
-        return false;
-    }
-    (x >> k) % 2 == 1
+    k < 8 && (x >> k) & 1 == 1
 }
 
 // `x` with bit `k` set.
 pub fn with_bit(x: u8, k: u8) -> u8
     ensures { result ≡ with_bit x k }
 {
-    if k >= 8 {
-        return x;
-    }
-    x | (1 << k)
+    if k < 8 { x | (1 << k) } else { x }
 }
 
 // `x` with bit `k` clear.
 pub fn without_bit(x: u8, k: u8) -> u8
     ensures { result ≡ without_bit x k }
 {
-    if k >= 8 {
-        return x;
-    }
-    x & !(1 << k)
+    if k < 8 { x & !(1 << k) } else { x }
 }
 
 // A level or a test as a number: 1 where it is high or holds, else 0.
@@ -41,12 +33,13 @@ pub fn digit_of(high: bool) -> u8
     ensures value { result ≡ digit high }
     ensures upper_bound { result ≤ 1 }
 {
-    if high { 1 } else { 0 }
+    u8::from(high)
 }
 
 // The number of ones in IRR that are clear in IMR.
+#[tactic(auto, using(crate::proofs::Byte::waiting_sum))]
 pub fn waiting_number(irr: u8, imr: u8) -> u8
     ensures { result ≡ waiting irr imr }
 {
-    u8::count_ones(irr & !imr) as u8
+    (irr & !imr).count_ones() as u8
 }

@@ -3,43 +3,31 @@ ghost use Rattle.std.specs.Prelude.{◌≡◌, ◌<◌};
 ghost use Rattle.chip.specs.Command.{obey, commanded};
 ghost use Rattle.chip.specs.Fields.{with_command};
 ghost use Rattle.figure4.specs.Figure4.{figure4};
-ghost use Rattle.figure4.specs.declared.Command.TheVariants.{PreselectLevel};
 
 use crate::{Chip, Destination};
 use figure4::Command;
 
 impl Chip {
-    // A command write: what its row says; an undefined one changes nothing.
+    // A command write: it ends the earlier destination, and its row is carried out; an undefined one changes nothing.
     #[tactic(auto, unfolding(crate::specs::Command::commanded))]
     pub fn commanded(self, code: u8) -> Chip
         ensures { result ≡ commanded (figure4 code) code self }
     {
         match Command::try_from(code) {
-            Ok(row) => self.command(row, code),
+            Ok(row) => self.with_destination(Destination::Nowhere).obey(row, code),
             Err(_) => self,
         }
     }
 
-    // A command write, with the code's row: it ends the earlier destination, and the row is carried out.
-    #[tactic(auto, unfolding(crate::specs::Command::commanded))]
-    fn command(self, row: Command, code: u8) -> Chip
-        requires { figure4 code ≡ Ok row }
-        ensures { result ≡ commanded (Ok row) code self }
-    {
-        self.with_destination(Destination::Nowhere).obey(row, code)
-    }
-
     // The code becomes the last command, and its row is carried out.
-    #[tactic(auto, using(figure4::proofs::Figure4::preselected), unfolding(crate::proofs::Rules::chip_fields, crate::specs::Command::obey))]
+    #[tactic(auto, using(figure4::proofs::Figure4::widths), unfolding(crate::proofs::Rules::chip_fields, crate::specs::Command::obey))]
     fn obey(mut self, row: Command, code: u8) -> Chip
         requires { figure4 code ≡ Ok row }
         ensures { result ≡ obey row (with_command code self) }
     {
         self.command = code;
         match row {
-            Command::Reset => {
-                return self.reset();
-            }
+            Command::Reset => self = self.reset(),
             Command::ClearIrrAndImr => {
                 self.irr = 0;
                 self.imr = 0;
@@ -63,32 +51,18 @@ impl Chip {
             ),
             Command::ClearIsr => self.isr = 0,
             Command::ClearIsrBit(k) => self.isr = bits::without_bit(self.isr, k),
-            // A remainder by the width of M4 to M0 or M6 M5 leaves them as they are, and shows that the sum is a byte.
-            Command::LoadMode(m) => self.mode = self.mode / 32 * 32 + m % 32,
-            Command::LoadRead(m) => self.mode = self.mode / 128 * 128 + m % 4 * 32 + self.mode % 32,
-            Command::LoadReadAndArm(m) => self.mode = 128 + m % 4 * 32 + self.mode % 32,
-            Command::LoadReadAndDisarm(m) => self.mode = m % 4 * 32 + self.mode % 32,
-            Command::PreselectImr => {
-                return self.with_destination(Destination::Imr);
-            }
-            Command::PreselectAcr => {
-                return self.with_destination(Destination::Acr);
-            }
+            Command::LoadMode(m) => self.mode = self.mode / 32 * 32 + m,
+            Command::LoadRead(m) => self.mode = self.mode / 128 * 128 + m * 32 + self.mode % 32,
+            Command::LoadReadAndArm(m) => self.mode = 128 + m * 32 + self.mode % 32,
+            Command::LoadReadAndDisarm(m) => self.mode = m * 32 + self.mode % 32,
+            Command::PreselectImr => self.destination = Destination::Imr,
+            Command::PreselectAcr => self.destination = Destination::Acr,
+            // A level is chosen at place 0, with its count code.
             Command::PreselectLevel(count, level) => {
-                return self.preselect(count, level);
+                self.counts[usize::from(level)] = count;
+                self.destination = Destination::Level(level, 0);
             }
         }
         self
-    }
-
-    // A level chosen, at place 0, with its count code.
-    #[tactic(auto, unfolding(crate::proofs::Rules::chip_fields, crate::specs::Command::obey))]
-    fn preselect(mut self, count: u8, level: u8) -> Chip
-        requires { level < 8 }
-        ensures { result ≡ obey (PreselectLevel count level) self }
-    {
-        let n = level as usize;
-        self.counts[n] = count;
-        self.with_destination(Destination::Level(level, 0))
     }
 }

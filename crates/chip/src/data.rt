@@ -1,5 +1,5 @@
 // Response levels, data writes and data reads of a chip.
-ghost use Rattle.std.specs.Prelude.{true, false, ◌≡◌, ◌<◌, get_or, set};
+ghost use Rattle.std.specs.Prelude.{true, false, ◌≡◌, ◌<◌, get_or};
 ghost use Rattle.chip.specs.Data.{byte_count, memory_place, has_no_destination, is_past_its_count, data_written, data_read};
 ghost use Rattle.chip.specs.Sound.{chip_sound};
 ghost use Rattle.chip.specs.declared.Destination.TheVariants.{Level};
@@ -10,27 +10,7 @@ use crate::{Chip, Destination};
 pub(crate) fn memory_place(level: u8, place: u8) -> usize
     ensures { result ≡ memory_place level place }
 {
-    level as usize * 4 + place as usize
-}
-
-// The response memory with a byte stored; past its end there is nothing to store.
-fn stored(mut memory: [u8; 32], at: usize, byte: u8) -> [u8; 32]
-    ensures { result ≡ set memory at byte }
-{
-    if at >= 32 {
-        return memory;
-    }
-    memory[at] = byte;
-    memory
-}
-
-impl Destination {
-    // Whether it is none.
-    pub(crate) fn is_nowhere(self) -> bool
-        ensures { result ≡ has_no_destination self }
-    {
-        matches!(self, Destination::Nowhere)
-    }
+    usize::from(level) * 4 + usize::from(place)
 }
 
 impl Chip {
@@ -41,31 +21,31 @@ impl Chip {
         requires level_bound { level < 8 }
         ensures { result ≡ byte_count self.counts level }
     {
-        self.counts[level as usize] + 1
+        self.counts[usize::from(level)] + 1
     }
 
     // Whether data writes have nowhere to go.
     pub fn has_no_destination(self) -> bool
         ensures { result ≡ has_no_destination self.destination }
     {
-        self.destination.is_nowhere()
+        matches!(self.destination, Destination::Nowhere)
     }
 
     // The byte count code of a level; 0 where there is no such level.
     fn code_of(self, level: u8) -> u8
         ensures { result ≡ get_or self.counts level 0 }
     {
-        self.counts.get(level as usize).copied().unwrap_or(0)
+        self.counts.get(usize::from(level)).copied().unwrap_or(0)
     }
 
     // Whether the destination is a level whose place is at or past its count.
     pub fn is_past_its_count(self) -> bool
         ensures { result ≡ is_past_its_count self.counts self.destination }
     {
-        match self.destination {
-            Destination::Level(level, place) => place > self.code_of(level),
-            Destination::Nowhere | Destination::Imr | Destination::Acr => false,
-        }
+        matches!(
+            self.destination,
+            Destination::Level(level, place) if place > self.code_of(level)
+        )
     }
 
     // A data write: IMR and ACR may be written repeatedly; a level takes the byte at its next place.
@@ -78,18 +58,21 @@ impl Chip {
             Destination::Nowhere => (),
             Destination::Imr => self.imr = byte,
             Destination::Acr => self.acr = byte,
-            Destination::Level(level, place) => return self.at_level(level, place, byte),
+            Destination::Level(level, place) => self = self.at_level(level, place, byte),
         }
         self
     }
 
-    // The byte at a place of a level, and the place moved on.
+    // The byte at a place of a level, and the place moved on; past the memory's end there is nothing to store.
     #[tactic(auto, unfolding(crate::proofs::Rules::chip_fields, crate::specs::Data::data_written))]
     fn at_level(mut self, level: u8, place: u8, byte: u8) -> Chip
         requires { place < 255 }
         ensures { result ≡ data_written (Level level place) byte self }
     {
-        self.memory = stored(self.memory, memory_place(level, place), byte);
+        let at = memory_place(level, place);
+        if at < self.memory.len() {
+            self.memory[at] = byte;
+        }
         self.destination = Destination::Level(level, place + 1);
         self
     }
@@ -98,11 +81,11 @@ impl Chip {
     pub fn read(self) -> u8
         ensures { result ≡ data_read self }
     {
-        let m5 = bits::is_set(self.mode, 5);
-        if bits::is_set(self.mode, 6) {
-            if m5 { self.acr } else { self.irr }
-        } else {
-            if m5 { self.imr } else { self.isr }
+        match (bits::is_set(self.mode, 6), bits::is_set(self.mode, 5)) {
+            (false, false) => self.isr,
+            (false, true) => self.imr,
+            (true, false) => self.irr,
+            (true, true) => self.acr,
         }
     }
 }

@@ -1,6 +1,5 @@
 // A line level at a chip.
-ghost use Rattle.std.specs.Prelude.{cond, ◌≡◌};
-ghost use Rattle.bits.specs.Byte.{with_bit};
+ghost use Rattle.std.specs.Prelude.{◌≡◌};
 ghost use Rattle.chip.specs.Line.{is_active_edge, bit_at, line_set};
 
 use crate::Chip;
@@ -10,9 +9,9 @@ fn is_active_edge(mode: u8, before: bool, now: bool) -> bool
     ensures { result ≡ is_active_edge mode before now }
 {
     if bits::is_set(mode, 4) {
-        !before & now
+        !before && now
     } else {
-        before & !now
+        before && !now
     }
 }
 
@@ -27,26 +26,16 @@ fn bit_at(high: bool, x: u8, k: u8) -> u8
     }
 }
 
-// IRR after a transition at the line of a channel: an active edge sets the bit, masked or disarmed included.
-fn latched(irr: u8, channel: u8, active: bool) -> u8
-    ensures { result ≡ cond active (with_bit irr channel) irr }
-{
-    if active {
-        bits::with_bit(irr, channel)
-    } else {
-        irr
-    }
-}
-
 impl Chip {
-    // The line of a channel takes a level.
+    // The line of a channel takes a level; an active edge sets the IRR bit, masked or disarmed included.
     #[tactic(auto, unfolding(crate::proofs::Rules::chip_fields, crate::specs::Line::line_set))]
     pub fn line(mut self, channel: u8, high: bool) -> Chip
         ensures { result ≡ line_set channel high self }
     {
         let before = bits::is_set(self.lines, channel);
-        let active = is_active_edge(self.mode, before, high);
-        self.irr = latched(self.irr, channel, active);
+        if is_active_edge(self.mode, before, high) {
+            self.irr = bits::with_bit(self.irr, channel);
+        }
         self.lines = bit_at(high, self.lines, channel);
         self
     }

@@ -17,10 +17,12 @@ impl Chip {
     pub fn power_up(fill: u8) -> Chip
         ensures { result ≡ power_up fill }
     {
-        let mut chip = Chip::zero();
-        chip.memory = [fill; 32];
-        chip.counts = [fill % 4; 8];
-        chip.lines = Chip::LINES;
+        let chip = Chip {
+            memory: [fill; 32],
+            counts: [fill % 4; 8],
+            lines: Chip::LINES,
+            ..Chip::zero()
+        };
         chip.reset()
     }
 

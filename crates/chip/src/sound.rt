@@ -11,7 +11,7 @@ impl Destination {
     {
         match self {
             Destination::Nowhere | Destination::Imr | Destination::Acr => true,
-            Destination::Level(level, place) => (level <= 7) & (place <= 4),
+            Destination::Level(level, place) => level <= 7 && place <= 4,
         }
     }
 }
@@ -22,7 +22,7 @@ impl Chip {
     pub fn is_sound(self) -> bool
         ensures { result ≡ chip_sound self }
     {
-        self.has_sound_codes() & (self.pointer <= 7) & self.destination.is_sound()
+        self.has_sound_codes() && self.pointer <= 7 && self.destination.is_sound()
     }
 
     // Each of the eight codes is at most 3.

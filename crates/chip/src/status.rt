@@ -3,7 +3,6 @@ ghost use Rattle.std.specs.Prelude.{◌≡◌};
 ghost use Rattle.chip.specs.Status.{is_armed, is_polled, is_rotating, candidate_of, status_byte, gint_active, gint_pin, waiting_number};
 
 use crate::Chip;
-use search::{channel_of, exists};
 
 impl Chip {
     // M7.
@@ -35,37 +34,34 @@ impl Chip {
     }
 
     // The status byte where the chip's EI is at a level.
-    #[tactic(auto, using(search::proofs::Order::candidate_lt))]
+    #[tactic(auto, using(search::proofs::Order::unwrapped_lt))]
     pub fn status(self, ei: bool) -> u8
         ensures { result ≡ status_byte self ei }
     {
         let candidate = self.candidate();
-        channel_of(candidate)
-            + 8 * bits::digit_of(self.is_armed())
-            + 16 * bits::digit_of(self.is_polled())
-            + 32 * bits::digit_of(self.is_rotating())
-            + 64 * bits::digit_of(ei)
-            + 128 * bits::digit_of(exists(candidate))
+        candidate.unwrap_or(0)
+            + 8 * u8::from(self.is_armed())
+            + 16 * u8::from(self.is_polled())
+            + 32 * u8::from(self.is_rotating())
+            + 64 * u8::from(ei)
+            + 128 * u8::from(candidate.is_some())
     }
 
     // GINT is active if M2 is clear and a candidate exists.
     pub fn gint_active(self) -> bool
         ensures { result ≡ gint_active self }
     {
-        !self.is_polled() & exists(self.candidate())
+        !self.is_polled() && self.candidate().is_some()
     }
 
     // Its pin, by M3: 1 or 0 where GINT is active high; 0 or 2, released, where it is active low.
     pub fn gint(self) -> u8
         ensures { result ≡ gint_pin self.mode (gint_active self) }
     {
-        let active = self.gint_active();
-        if bits::is_set(self.mode, 3) {
-            bits::digit_of(active)
-        } else if active {
-            0
-        } else {
-            2
+        match (bits::is_set(self.mode, 3), self.gint_active()) {
+            (true, active) => u8::from(active),
+            (false, true) => 0,
+            (false, false) => 2,
         }
     }
 

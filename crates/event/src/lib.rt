@@ -26,7 +26,7 @@ pub enum Event {
 #[derive(Clone, Copy, Debug, PartialEq, Eq)]
 pub struct UnknownKind(pub u8);
 
-// Four numbers.
+// Four numbers. The kind is one and no enum: a list from C has four bytes for each event, and any of the 256 may stand there.
 #[derive(Clone, Copy)]
 pub struct Numbered {
     pub kind: u8,

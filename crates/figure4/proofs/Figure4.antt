@@ -164,11 +164,23 @@ pub row_fits_lem : (code : ℕ) (row : Command) → figure4 code ≡ Ok row → 
 unfolding figure4
 row_fits_lem code row e = ap fits (sym e) ∙ in_figure fits (λ kind. refl) (λ row fit other. fit) (code / 16) code (λ _. refl)
 
--- so a remainder by the width of a row's one number leaves it as it is
-pub row_narrow : (kind : ℕ → Command) (width : ℕ) → ((m : ℕ) → row_fits (kind m) ≡ ltb m width)
-    → (code m : ℕ) (row : Command) → figure4 code ≡ Ok row → row ≡ kind m → m % width ≡ m
-row_narrow kind width wide code m row e is =
-    mod-eq_of_lt (ltb-true m width (sym (wide m) ∙ ap row_fits (sym is) ∙ row_fits_lem code row e))
+-- so a row's one number is below its width
+row_lt : (kind : ℕ → Command) (width : ℕ) → ((m : ℕ) → row_fits (kind m) ≡ ltb m width)
+    → (code m : ℕ) (row : Command) → figure4 code ≡ Ok row → row ≡ kind m → m < width
+row_lt kind width wide code m row e is = ltb-true m width (sym (wide m) ∙ ap row_fits (sym is) ∙ row_fits_lem code row e)
+
+-- M4 to M0, and M6 M5 in each of the three rows that load them
+pub mode_lt : (code m : ℕ) (row : Command) → figure4 code ≡ Ok row → row ≡ LoadMode m → m < 32
+mode_lt = row_lt LoadMode 32 (λ m. refl)
+
+pub read_lt : (code m : ℕ) (row : Command) → figure4 code ≡ Ok row → row ≡ LoadRead m → m < 4
+read_lt = row_lt LoadRead 4 (λ m. refl)
+
+pub read_and_arm_lt : (code m : ℕ) (row : Command) → figure4 code ≡ Ok row → row ≡ LoadReadAndArm m → m < 4
+read_and_arm_lt = row_lt LoadReadAndArm 4 (λ m. refl)
+
+pub read_and_disarm_lt : (code m : ℕ) (row : Command) → figure4 code ≡ Ok row → row ≡ LoadReadAndDisarm m → m < 4
+read_and_disarm_lt = row_lt LoadReadAndDisarm 4 (λ m. refl)
 
 -- a preselected level is below 8, its count code below 4
 pub preselected : (code count level : ℕ) (row : Command) → figure4 code ≡ Ok row → row ≡ PreselectLevel count level
@@ -176,6 +188,9 @@ pub preselected : (code count level : ℕ) (row : Command) → figure4 code ≡ 
 preselected code count level row e is =
     let fit : ltb count 4 && ltb level 8 ≡ true = ap row_fits (sym is) ∙ row_fits_lem code row e in
     (ltb-true count 4 (both_left _ (ltb level 8) fit), ltb-true level 8 (both_right (ltb count 4) _ fit))
+
+-- each of them, for what carries a row out
+pub ruleset widths = (mode_lt, read_lt, read_and_arm_lt, read_and_disarm_lt, preselected)
 
 abbrev is_no_reset : Meaning → Bool
 is_no_reset (Ok row) = not (is_reset_row row)

@@ -52,11 +52,7 @@ impl TryFrom<u8> for Command {
         let k = code % 8;
         match code / 16 {
             0x0 => reset_or_undefined(code),
-            0x1 => all_or_one(
-                code,
-                Command::ClearIrrAndImr,
-                Command::ClearIrrAndImrBit(k),
-            ),
+            0x1 => all_or_one(code, Command::ClearIrrAndImr, Command::ClearIrrAndImrBit(k)),
             0x2 => all_or_one(code, Command::ClearImr, Command::ClearImrBit(k)),
             0x3 => all_or_one(code, Command::SetImr, Command::SetImrBit(k)),
             0x4 => all_or_one(code, Command::ClearIrr, Command::ClearIrrBit(k)),

@@ -34,8 +34,8 @@ computed : T (every 8 (λ last. every 256 (agree last)))
 unfolding first_channel first_in count_trailing_zeros
 computed = tt
 
-pub first_turned : (last x : ℕ) → x < 256 → turned last x ≡ first_channel last x
+pub first_turned : (last x : ℕ) → x < 256 → first_channel last x ≡ turned last x
 first_turned last x h =
-    turned_modulo last x
-    ∙ eqb→eq _ _ (each 256 (agree (last % 8)) (each 8 (λ last. every 256 (agree last)) computed (last % 8) (mod-lt last (lit< tt))) x h)
-    ∙ sym (first_modulo last x)
+    first_modulo last x
+    ∙ sym (eqb→eq _ _ (each 256 (agree (last % 8)) (each 8 (λ last. every 256 (agree last)) computed (last % 8) (mod-lt last (lit< tt))) x h))
+    ∙ sym (turned_modulo last x)

@@ -13,6 +13,8 @@ fn channel_at(last: u8, place: u8) -> u8
 }
 
 // The first channel set in `x`, in the order that ends with `last`; 255 for an empty byte.
+// A number and no Option: 255 for none is the paper's (`first_channel` in specs/), and `an_empty_byte_is_254` stands on it.
+#[tactic(auto, using(crate::proofs::Turned::first_turned))]
 pub fn first_channel(last: u8, x: u8) -> u8
     ensures { result ≡ first_channel last x }
 {
@@ -20,7 +22,7 @@ pub fn first_channel(last: u8, x: u8) -> u8
         return 255;
     }
     // The byte twice over, from the channel that starts the order: bit n of that is the channel at place n.
-    let twice = x as u16 * 257;
+    let twice = u16::from(x) * 257;
     let turned = twice >> channel_at(last, 0);
-    channel_at(last, u16::trailing_zeros(turned) as u8)
+    channel_at(last, turned.trailing_zeros() as u8)
 }

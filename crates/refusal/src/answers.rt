@@ -23,10 +23,7 @@ pub fn number(answer: Answer) -> u8
 pub fn drove(answer: Answer) -> u8
     ensures { result ≡ (handed answer).drove }
 {
-    match answer {
-        Ok(Some(_)) => 1,
-        Ok(None) | Err(_) => 0,
-    }
+    u8::from(matches!(answer, Ok(Some(_))))
 }
 
 // That byte, else 0.

@@ -33,8 +33,7 @@ pub fn put_meaning(to: &mut [u8], at: usize, number: u8) -> usize
 pub fn meaning_length(number: u8) -> usize
     ensures { result ≡ length (meaning_of number) }
 {
-    let sentence = line_in(&SENTENCES, line_of(number));
-    sentence.len()
+    line_in(&SENTENCES, line_of(number)).len()
 }
 
 // The line of a number.

@@ -1,6 +1,7 @@
 -- Laws of the candidate and of the first ISR bit: one look for the first set channel answers for both.
 -- Assumes nothing.
 use Rattle.std.specs.Prelude.{Option, Some, None}
+use Rattle.std.specs.Option.{unwrap_or}
 use mathlib.Core.Path.{◌≡◌, refl, ap, ◌∙◌}
 use mathlib.Core.Bool.{Bool, true, false, cond, not, ◌&&◌, ◌||◌}
 use Prim.Native.Nat.{ℕ, ◌-◌, ◌<◌}
@@ -76,3 +77,11 @@ candidate_lt irr imr isr mode pointer =
     if_found_lt (bit mode 7) _
     (if_found_lt (ltb (first_waiting (last_of mode pointer) irr imr) (fence (last_of mode pointer) isr)) _
     (channel_lt (last_of mode pointer) (first_waiting (last_of mode pointer) irr imr)))
+
+unwrapped : (c : Option ℕ) → unwrap_or c 0 ≡ channel_of c
+unwrapped (Some k) = refl
+unwrapped None = refl
+
+-- the same of the channel as code takes it out
+pub unwrapped_lt : (irr imr isr mode pointer : ℕ) → unwrap_or (candidate irr imr isr mode pointer) 0 < 8
+unwrapped_lt irr imr isr mode pointer = rw (unwrapped (candidate irr imr isr mode pointer)) (candidate_lt irr imr isr mode pointer)

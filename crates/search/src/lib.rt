@@ -15,6 +15,8 @@ fn last_of(mode: u8, pointer: u8) -> u8
 }
 
 // The candidate of a chip with these registers: the first channel that waits or is in service, unless it is in service.
+// Five registers and no struct of them: a caller in C has them apart (am9519a_candidate), and a chip has them among others.
+#[tactic(auto, using(crate::proofs::Order::candidate_by_lem), unfolding(crate::specs::Candidate::candidate))]
 pub fn candidate_of(irr: u8, imr: u8, isr: u8, mode: u8, pointer: u8) -> Option<u8>
     ensures { result ≡ candidate irr imr isr mode pointer }
 {
@@ -24,16 +26,11 @@ pub fn candidate_of(irr: u8, imr: u8, isr: u8, mode: u8, pointer: u8) -> Option<
     let last = last_of(mode, pointer);
     let waiting = irr & !imr;
     let first = order::first_channel(last, waiting | isr);
-    if first > 7 {
-        return None;
-    }
-    if bits::is_set(isr, first) {
-        return None;
-    }
-    Some(first)
+    (first <= 7 && !bits::is_set(isr, first)).then_some(first)
 }
 
 // ISR after "clear highest priority ISR bit", by the order in force. An empty ISR has no first bit, and 255 is no bit to clear.
+#[tactic(auto, using(crate::proofs::Order::clear_first_lem), unfolding(crate::specs::Clear::clear_highest))]
 pub fn clear_highest(isr: u8, mode: u8, pointer: u8) -> u8
     ensures { result ≡ clear_highest isr mode pointer }
 {

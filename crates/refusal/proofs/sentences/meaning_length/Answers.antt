@@ -6,4 +6,4 @@ use Rattle.refusal.proofs.sentences.meaning_length.Goals as goal
 
 pub returns : goal.returns
 unfolding meaning_of
-returns c = ap length c.line_in-sentence.ensures ∙ ap (λ (k : ℕ). length (line_in k sentences)) c.line_of.ensures
+returns c = ap length c.line_in.ensures ∙ ap (λ (k : ℕ). length (line_in k sentences)) c.line_of.ensures

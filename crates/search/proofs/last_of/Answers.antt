@@ -1,8 +1,0 @@
--- `search::last_of` meets its contract, by the two values of M0.
-use Rattle.search.proofs.last_of.Goals as goal
-
-pub returns-then-is_set : goal.returns-then-is_set
-returns-then-is_set c = simp (← c.is_set.ensures, c.if-is_set.true)
-
-pub returns-else-is_set : goal.returns-else-is_set
-returns-else-is_set c = simp (← c.is_set.ensures, c.if-is_set.false)
