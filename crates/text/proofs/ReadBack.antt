@@ -13,8 +13,7 @@ use Rattle.bits.proofs.Below.{both_left, both_right, every_each}
 use Rattle.bits.specs.Below.{every}
 use Rattle.text.specs.Words.{is_blank, is_letter, lead, word_start, word_end, word, decimal_in, hex_in}
 use Rattle.text.specs.Written.{decimal, hex_byte}
-use Rattle.text.specs.declared.Number.{Number}
-use Rattle.text.specs.declared.Number.TheVariants.{Value, Wrong}
+use Rattle.std.specs.Prelude.{Option, Some, None}
 use Rattle.text.specs.declared.Sort.TheVariants.{Blank, Letter}
 
 -- each byte of a text passes a test
@@ -80,22 +79,22 @@ rest_back : (w rest : List ℕ) → plain w ≡ true → lead Letter rest ≡ 0 
 rest_back w rest ok none = ap (λ (n : ℕ). drop n (32 ∷ (w ++ rest))) (ends_there w rest ok none) ∙ drop_at w rest (length w) refl
 
 -- a number that is written is a plain word that says it; computed for each of the 256
-abbrev gives : Number → ℕ → Bool
-gives (Value value) n = eqb value n
-gives Wrong n = false
+abbrev gives : Option ℕ → ℕ → Bool
+gives (Some value) n = eqb value n
+gives None n = false
 
-gives_it : (x : Number) (n : ℕ) → gives x n ≡ true → x ≡ Value n
-gives_it (Value value) n is = ap Value (eqb-true value n is)
-gives_it Wrong n is = absurd (false≢true is)
+gives_it : (x : Option ℕ) (n : ℕ) → gives x n ≡ true → x ≡ Some n
+gives_it (Some value) n is = ap Some (eqb-true value n is)
+gives_it None n is = absurd (false≢true is)
 
-abbrev reads : (ℕ → List ℕ) → (List ℕ → Number) → ℕ → Bool
+abbrev reads : (ℕ → List ℕ) → (List ℕ → Option ℕ) → ℕ → Bool
 reads write read n = plain (write n) && gives (read (write n)) n
 
 -- so a number that is written is a plain word, and is read
-abbrev pub Back : (ℕ → List ℕ) → (List ℕ → Number) → ℕ → Type 0
-Back write read n = (plain (write n) ≡ true) × (read (write n) ≡ Value n)
+abbrev pub Back : (ℕ → List ℕ) → (List ℕ → Option ℕ) → ℕ → Type 0
+Back write read n = (plain (write n) ≡ true) × (read (write n) ≡ Some n)
 
-back : (write : ℕ → List ℕ) (read : List ℕ → Number) → every 256 (reads write read) ≡ true → (n : ℕ) → n ≤ 255 → Back write read n
+back : (write : ℕ → List ℕ) (read : List ℕ → Option ℕ) → every 256 (reads write read) ≡ true → (n : ℕ) → n ≤ 255 → Back write read n
 back write read each-is n h =
     let ok = every_each 256 (reads write read) each-is n (omega (arith, h)) in
     (both_left (plain (write n)) (gives (read (write n)) n) ok, gives_it (read (write n)) n (both_right (plain (write n)) (gives (read (write n)) n) ok))
@@ -110,9 +109,9 @@ hex_back n h = back hex_byte hex_in refl n h
 
 -- behind a blank, with a rest behind it: the number, and the rest
 pub number_back :
-    (write : ℕ → List ℕ) (read : List ℕ → Number) (n : ℕ) (rest : List ℕ)
+    (write : ℕ → List ℕ) (read : List ℕ → Option ℕ) (n : ℕ) (rest : List ℕ)
     → Back write read n
     → lead Letter rest ≡ 0
-    → (read (word (32 ∷ (write n ++ rest))) ≡ Value n) × (drop (word_end (32 ∷ (write n ++ rest))) (32 ∷ (write n ++ rest)) ≡ rest)
+    → (read (word (32 ∷ (write n ++ rest))) ≡ Some n) × (drop (word_end (32 ∷ (write n ++ rest))) (32 ∷ (write n ++ rest)) ≡ rest)
 number_back write read n rest is none =
     (ap read (word_back (write n) rest is.0 none) ∙ is.1, rest_back (write n) rest is.0 none)

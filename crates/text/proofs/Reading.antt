@@ -12,7 +12,7 @@ use lib.ListN.{length, get_or, drop, drop_of_length-le}
 use lib.Seq.{drop-cons}
 use Rattle.bits.proofs.Below.{both_left, both_right, both_not}
 use Rattle.text.specs.Words.{passes, lead, same, is_digit, decimal_from, decimal_in, two_digits, hex_in}
-use Rattle.text.specs.declared.Number.TheVariants.{Value, Wrong}
+use Rattle.std.specs.Prelude.{Option, Some, None}
 use Rattle.text.specs.declared.Sort.{Sort}
 
 -- what stands from a place on, where something does
@@ -55,31 +55,32 @@ same_lengths (c ∷ cs) (d ∷ ds) h =
 pub digit_is : (c : ℕ) → is_digit c ≡ true → (48 ≤ c) × (c ≤ 57)
 digit_is c is = (leb-true 48 c (both_left (leb 48 c) (leb c 57) is), leb-true c 57 (both_right (leb 48 c) (leb c 57) is))
 
--- decimal: a digit more
-pub decimal_more : (value : ℕ) (l : List ℕ) (k : ℕ) → k < length l → is_digit (get_or l k 0) ≡ true → decimal_from value (drop k l) ≡ decimal_from (10 * value + (get_or l k 0 - 48)) (drop (k + 1) l)
-decimal_more value l k h is =
-    ap (decimal_from value) (split l k h) ∙ ap (λ t. cond t (decimal_from (10 * value + (get_or l k 0 - 48)) (drop (k + 1) l)) Wrong) is
-
--- a byte that is no digit
-pub decimal_other : (value : ℕ) (l : List ℕ) (k : ℕ) → k < length l → is_digit (get_or l k 0) ≡ false → decimal_from value (drop k l) ≡ Wrong
-decimal_other value l k h is =
-    ap (decimal_from value) (split l k h) ∙ ap (λ t. cond t (decimal_from (10 * value + (get_or l k 0 - 48)) (drop (k + 1) l)) Wrong) is
-
 -- a value above 255 stays above, whatever follows
-pub decimal_above : (value : ℕ) (l : List ℕ) → 255 < value → decimal_from value l ≡ Wrong
-decimal_above value [] h = ap (λ t. cond t (Value value) Wrong) (lt-leb value 255 h)
+decimal_above : (value : ℕ) (l : List ℕ) → 255 < value → decimal_from value l ≡ None
+decimal_above value [] h = ap (λ t. cond t (Some value) None) (lt-leb value 255 h)
 decimal_above value (c ∷ cs) h =
-    ap (λ n. cond (is_digit c) n Wrong) (decimal_above (10 * value + (c - 48)) cs (omega arith)) ∙ either (is_digit c)
+    ap (λ n. cond (is_digit c) n None) (decimal_above (10 * value + (c - 48)) cs (omega arith)) ∙ either (is_digit c)
   where
-    either : (t : Bool) → cond t Wrong Wrong ≡ Wrong
+    either : (t : Bool) → cond {A = Option ℕ} t None None ≡ None
     either true = refl
     either false = refl
 
-pub decimal-ends : (value : ℕ) (l : List ℕ) (k : ℕ) → length l ≤ k → value ≤ 255 → decimal_from value (drop k l) ≡ Value value
-decimal-ends value l k h is =
-    ap (decimal_from value) (drop_of_length-le l h) ∙ ap (λ t. cond t (Value value) Wrong) (le-leb value 255 is)
+-- as it is from the next byte on, if that makes it so
+pub decimal_over : (value : ℕ) (l : List ℕ) (k : ℕ) → k < length l → 255 < 10 * value + (get_or l k 0 - 48) → decimal_from value (drop k l) ≡ None
+decimal_over value l k more h =
+    ap (decimal_from value) (split l k more)
+    ∙ ap (λ n. cond (is_digit (get_or l k 0)) n None) (decimal_above (10 * value + (get_or l k 0 - 48)) (drop (k + 1) l) h)
+    ∙ either (is_digit (get_or l k 0))
+  where
+    either : (t : Bool) → cond {A = Option ℕ} t None None ≡ None
+    either true = refl
+    either false = refl
 
-pub decimal_none : (l : List ℕ) → length l ≡ 0 → decimal_in l ≡ Wrong
+pub decimal_ends : (value : ℕ) (l : List ℕ) (k : ℕ) → length l ≤ k → value ≤ 255 → decimal_from value (drop k l) ≡ Some value
+decimal_ends value l k h is =
+    ap (decimal_from value) (drop_of_length-le l h) ∙ ap (λ t. cond t (Some value) None) (le-leb value 255 is)
+
+pub decimal_none : (l : List ℕ) → length l ≡ 0 → decimal_in l ≡ None
 unfolding decimal_in
 decimal_none [] is = refl
 decimal_none (c ∷ cs) is = absurd (omega (arith, is))
@@ -103,7 +104,7 @@ hex_two (c ∷ []) is = absurd (omega (arith, is))
 hex_two (c ∷ d ∷ []) is = refl
 hex_two (c ∷ d ∷ e ∷ more) is = absurd (omega (arith, is))
 
-pub hex_other : (l : List ℕ) → (length l ≡ 1 → ⊥) → (length l ≡ 2 → ⊥) → hex_in l ≡ Wrong
+pub hex_other : (l : List ℕ) → (length l ≡ 1 → ⊥) → (length l ≡ 2 → ⊥) → hex_in l ≡ None
 unfolding hex_in
 hex_other [] one two = refl
 hex_other (c ∷ []) one two = absurd (one refl)

@@ -8,13 +8,6 @@ pub mod put;
 pub mod tables;
 pub mod words;
 
-// What a word says that should be a number of eight bits.
-#[derive(Clone, Copy)]
-pub enum Number {
-    Value(u8),
-    Wrong,
-}
-
 // Another form of a byte: one that can be shown to people, or in small letters.
 #[derive(Clone, Copy)]
 pub enum Way {
