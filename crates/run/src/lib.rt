@@ -16,7 +16,7 @@ use chain::Chain;
 use image::LENGTH;
 use image::reading::chain_in;
 use image::writing::put_chain;
-use refusal::{Refusal, Verdict};
+use refusal::{Refusal, Verdict, is_accepted};
 
 // What a run reports, and the chain handed back. `accepted` counts the events accepted.
 #[derive(Clone, Copy)]
@@ -32,7 +32,7 @@ pub fn run(chain: Chain, bytes: &[u8], limit: usize, results: &mut [u8]) -> Ran
     ensures results_after { results.new ≡ (run_of chain bytes.now limit results.old).results }
 {
     let verdict = before_any(chain, bytes.len(), results.len());
-    if verdict.is_err() {
+    if !is_accepted(verdict) {
         return Ran {
             verdict,
             accepted: 0,

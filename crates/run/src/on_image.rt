@@ -55,13 +55,15 @@ fn perform_in(image: &mut [u8], bytes: &[u8], count: usize, results: &mut [u8]) 
 {
     for n in 0..count {
         let answer = step_in(image, listed_at(bytes, n));
-        if let Err(why) = answer {
-            return Reached {
-                verdict: Err(why),
-                accepted: n,
-            };
+        match answer {
+            Ok(_) => note(results, n, answer),
+            Err(why) => {
+                return Reached {
+                    verdict: Err(why),
+                    accepted: n,
+                };
+            }
         }
-        note(results, n, answer);
     }
     Reached {
         verdict: Ok(()),
