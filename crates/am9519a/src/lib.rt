@@ -12,7 +12,8 @@ use crate::shown::{chain_of, picture_bytes, put_view, table_bytes};
 use chain::Chain;
 use image::writing::put_chain;
 use refusal::sentences::{meaning_length, put_meaning};
-use refusal::{Refusal, verdict_number};
+use refusal::answers::verdict_in;
+use refusal::{Refusal, is_accepted, verdict_number};
 use run::on_image::run_in;
 use search::{candidate_number, candidate_of};
 use views::{pin_view, register_view};
@@ -36,8 +37,9 @@ pub fn am9519a_start(count: u8, fill: u8, image: &mut [u8]) -> u8
         return Refusal::NotSound.number();
     }
     let started = Chain::start(count, fill);
-    if let Err(why) = started.answer {
-        return why.number();
+    let verdict = verdict_in(started.answer);
+    if !is_accepted(verdict) {
+        return verdict_number(verdict);
     }
     put_chain(image, started.chain);
     0
@@ -54,8 +56,9 @@ pub fn am9519a_run(
     ensures { run_left result image.new results.new accepted.new
         ≡ run_call image.old events.now limit results.old accepted.old }
 {
-    if let Err(why) = run::before_any(chain_of(image), events.len(), results.len()) {
-        return why.number();
+    let verdict = run::before_any(chain_of(image), events.len(), results.len());
+    if !is_accepted(verdict) {
+        return verdict_number(verdict);
     }
     let reached = run_in(image, events, limit, results);
     *accepted = reached.accepted;
