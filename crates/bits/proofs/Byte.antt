@@ -18,10 +18,6 @@ use Rattle.bits.proofs.Below.{each, tested₂, how_many-same}
 pub no_bit : (x k : ℕ) → x < 256 → 8 ≤ k → bit x k ≡ false
 no_bit x k h l = rw (div-eq_of_lt (lt_of_lt_of_le h (pow_mono l)))
 
--- a power of two below 256 is the byte that `1 << k` gives
-pub power : (k : ℕ) → k < 8 → 1 * 2 ^ k % 256 ≡ 2 ^ k
-power k h = eqb→eq (1 * 2 ^ k % 256) (2 ^ k) (each 8 (λ k. eqb (1 * 2 ^ k % 256) (2 ^ k)) tt k h)
-
 digit_lt : (x k : ℕ) → x / 2 ^ k % 2 < 2
 digit_lt x k = mod-lt (x / 2 ^ k) (lit< tt)
 

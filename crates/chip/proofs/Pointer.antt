@@ -9,14 +9,13 @@ use Rattle.chip.specs.Acknowledge.{answered, finished}
 use Rattle.chip.specs.Command.{obey, commanded}
 use Rattle.chip.specs.Data.{data_written}
 use Rattle.chip.specs.Fields.{with_isr}
-use Rattle.figure4.specs.Figure4.{figure4, is_reset}
+use Rattle.figure4.specs.Figure4.{figure4, is_reset, Meaning}
 use Rattle.chip.specs.Line.{line_set}
 use Rattle.chip.specs.declared.Chip.{Chip}
 use Rattle.figure4.specs.declared.Command.{Command}
 use Rattle.figure4.specs.declared.Command.TheVariants.{Reset, ClearIrrAndImr, ClearIrrAndImrBit, ClearImr, ClearImrBit, SetImr, SetImrBit, ClearIrr, ClearIrrBit, SetIrr, SetIrrBit, ClearHighestIsr, ClearIsr, ClearIsrBit, LoadMode, LoadRead, LoadReadAndArm, LoadReadAndDisarm, PreselectImr, PreselectAcr, PreselectLevel}
 use Rattle.chip.specs.declared.Destination.{Destination}
 use Rattle.chip.specs.declared.Destination.TheVariants.{Nowhere, Imr, Acr, Level}
-use Rattle.figure4.specs.Figure4.{Meaning}
 use Rattle.figure4.proofs.Figure4.{is_reset_row, no_reset}
 use Rattle.chip.proofs.Rules.{chip_fields}
 

@@ -1,6 +1,5 @@
 -- What a chip does on a command (the rules paper, event 1): each row of Figure 4.
-use Rattle.std.specs.Prelude.{Ok, Err}
-use Rattle.std.specs.Prelude.{ℕ, ◌+◌, ◌*◌, ◌/◌, ◌%◌, set}
+use Rattle.std.specs.Prelude.{Ok, Err, ℕ, ◌+◌, ◌*◌, ◌/◌, ◌%◌, set}
 use Rattle.bits.specs.Byte.{with_bit, without_bit}
 use Rattle.search.specs.Clear.{clear_highest}
 use Rattle.chip.specs.Fields.{with_irr, with_isr, with_imr, with_mode, with_command, with_counts, with_destination}

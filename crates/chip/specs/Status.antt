@@ -1,6 +1,5 @@
 -- What a chip's registers say (the rules paper, "Bits" and "Views and runs"): candidate, status byte, GINT, waiting number.
-use Rattle.std.specs.Prelude.{Option}
-use Rattle.std.specs.Prelude.{Bool, not, cond, ◌&&◌, ℕ, ◌+◌, ◌*◌}
+use Rattle.std.specs.Prelude.{Option, Bool, not, cond, ◌&&◌, ℕ, ◌+◌, ◌*◌}
 use Rattle.bits.specs.Below.{digit}
 use Rattle.bits.specs.Byte.{bit, waiting}
 use Rattle.search.specs.Candidate.{candidate, exists, channel_of}

@@ -1,4 +1,6 @@
 // Whether a chip's record is sound.
+// A test and no invariant of the type: C lends chains whose records need not be sound, and every event reads them to refuse by 1. So
+// `byte_count`, `response_length` and `data` each require `chip_sound`.
 ghost use Rattle.std.specs.Prelude.{◌≡◌};
 ghost use Rattle.chip.specs.Sound.{chip_sound, destination_sound, codes_sound};
 

@@ -55,6 +55,7 @@ impl Chip {
     }
 
     // Its pin, by M3: 1 or 0 where GINT is active high; 0 or 2, released, where it is active low.
+    // A number and no enum: it stands as it is in the picture of a chip that C takes (am9519a_pins).
     pub fn gint(self) -> u8
         ensures { result ≡ gint_pin self.mode (gint_active self) }
     {

@@ -2,10 +2,9 @@
 -- Assumes nothing.
 use Rattle.std.specs.Prelude.{Ok, Err}
 use Rattle.std.proofs.Common.{◌≡◌, ℕ, true, sym, refl, ap, ◌∙◌, eqb-true}
-use Rattle.event.specs.Numbers.{listed, in_numbers, is_kind, is_fall}
+use Rattle.event.specs.Numbers.{listed, in_numbers, is_kind, is_fall, Listed}
 use Rattle.event.specs.declared.Event.{Event}
 use Rattle.event.specs.declared.Event.TheVariants.{Command, Data, Status, Read, Line, Enable, Fall, Rise}
-use Rattle.event.specs.Numbers.{Listed}
 
 pub read_as_written : (e : Event) → listed (in_numbers e).kind (in_numbers e).chip (in_numbers e).channel (in_numbers e).value ≡ Ok e
 read_as_written (Command chip code) = refl

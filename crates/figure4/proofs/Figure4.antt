@@ -10,11 +10,10 @@ use lib.Dec.{eqb, ltb, lit<}
 use borrow.Author.Tests.{le-leb, lt-leb, lt-ltb, ltb-true, ltb-false, ne_eqb, not-true}
 use Rattle.bits.proofs.Below.{either, both_left, both_right, tested}
 use Rattle.bits.specs.Byte.{bit}
-use Rattle.figure4.specs.Figure4.{is_reset, load_read, all_or_one, row_in, figure4, undefined}
+use Rattle.figure4.specs.Figure4.{is_reset, load_read, all_or_one, row_in, figure4, undefined, Meaning}
 use Rattle.figure4.specs.Undefined.{is_of_kind, is_undefined}
 use Rattle.figure4.specs.declared.Command.{Command}
 use Rattle.figure4.specs.declared.Command.TheVariants.{Reset, ClearIrrAndImr, ClearIrrAndImrBit, ClearImr, ClearImrBit, SetImr, SetImrBit, ClearIrr, ClearIrrBit, SetIrr, SetIrrBit, ClearHighestIsr, ClearIsr, ClearIsrBit, LoadMode, LoadRead, LoadReadAndArm, LoadReadAndDisarm, PreselectImr, PreselectAcr, PreselectLevel}
-use Rattle.figure4.specs.Figure4.{Meaning}
 use Rattle.figure4.specs.declared.Undefined as kinds
 use Rattle.figure4.specs.declared.Undefined.TheVariants.{Codes01To0F, Codes1010xx11, CodesD0ToDF}
 

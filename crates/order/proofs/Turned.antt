@@ -4,8 +4,7 @@ use mathlib.Core.Path.{◌≡◌, ap, sym, ◌∙◌}
 use mathlib.Core.Bool.{Bool, cond}
 use Prim.Native.Nat.{ℕ, ◌*◌, ◌/◌, ◌%◌, ◌^◌, ◌<◌}
 use native.Mathlib.Nat.{mod-lt}
-use native.Mathlib.Omega.{arith}
-use lib.Count.{count_trailing_zeros, trailing_le}
+use lib.Count.{count_trailing_zeros}
 use lib.Dec.{T, eqb, eqb→eq, lit<}
 use Rattle.bits.specs.Below.{every}
 use Rattle.bits.proofs.Below.{each}
@@ -16,10 +15,6 @@ use Rattle.order.proofs.Order.{channel_modulo, first_modulo}
 -- set channel
 abbrev pub turned : ℕ → ℕ → ℕ
 turned last x = cond (eqb x 0) 255 (channel_at last (count_trailing_zeros 16 (x * 257 / 2 ^ channel_at last 0)))
-
--- their number is a byte
-pub zeros_lt : (n : ℕ) → count_trailing_zeros 16 n < 256
-zeros_lt n = omega (arith, trailing_le 16 n)
 
 turned_modulo : (last x : ℕ) → turned last x ≡ turned (last % 8) x
 turned_modulo last x =

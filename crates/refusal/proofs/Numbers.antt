@@ -5,10 +5,9 @@ use mathlib.Core.Bool.{Bool, true, false, false≢true}
 use mathlib.Core.List.{List, [], ◌∷◌, ◌++◌}
 use mathlib.Core.Path.{◌≡◌, refl, ap, sym}
 use native.Mathlib.Omega.{arith}
-use Rattle.refusal.specs.Numbers.{refusal_number, is_accepted, first_of_list}
+use Rattle.refusal.specs.Numbers.{refusal_number, is_accepted, first_of_list, Verdict}
 use Rattle.refusal.specs.declared.Refusal.{Refusal}
 use Rattle.refusal.specs.declared.Refusal.TheVariants.{NotSound, NoSuchChip, NoSuchChannel, NoSuchLevel, PulseUnderWay, IackThereAlready, UndefinedCommand, NoDestination, PastItsCount, BrokenEvent, ShortResults, UnknownKind}
-use Rattle.refusal.specs.Numbers.{Verdict}
 
 -- no refusal has the number 0
 pub not_zero : (why : Refusal) → refusal_number why ≡ 0 → ⊥

@@ -1,6 +1,5 @@
 -- The candidate of a chip (the rules paper, "Bits"), from its registers as plain numbers, and its number for a caller in C ("Views and runs").
-use Rattle.std.specs.Prelude.{Option, Some, None}
-use Rattle.std.specs.Prelude.{Bool, true, false, cond, ℕ, ltb}
+use Rattle.std.specs.Prelude.{Option, Some, None, Bool, true, false, cond, ℕ, ltb}
 use Rattle.bits.specs.Byte.{bit}
 use Rattle.order.specs.Order.{channel_at}
 use Rattle.search.specs.Order.{last_of, first_waiting, fence}
