@@ -1,9 +1,9 @@
 -- Lists of bytes: written over, and zero.
 -- Assumes nothing.
-use mathlib.Core.Bool.{true, false, ◌&&◌}
+use mathlib.Core.Bool.{true, false, ◌&&◌, and_assoc, and-true}
 use mathlib.Core.List.{List, [], ◌∷◌, ◌++◌, append-nil, append_assoc}
 use mathlib.Core.Path.{◌≡◌, refl, sym, ap, ap₂, ◌∙◌}
-use Prim.Native.Nat.{ℕ, zero, suc, ◌+◌, ◌-◌, ◌≤◌, ◌<◌, suc-le-suc}
+use Prim.Native.Nat.{ℕ, zero, suc, ◌+◌, ◌-◌, ◌*◌, ◌≤◌, ◌<◌, suc-le-suc}
 use native.Mathlib.Nat.{zero-add, zero-lt-suc, le_of_eq, le_refl}
 use lib.Dec.{eqb}
 use lib.ListN.{length, get_or, take, drop, replicate, drop_of_length-le}
@@ -12,7 +12,9 @@ use borrow.Rule.Slice.PartMut.{put_mid, Post-is}
 use borrow.Author.Tests.{ne_eqb, eq-eqb, eqb-true}
 use Rattle.bits.proofs.Below.{both_left, both_right, both_not}
 use Rattle.image.specs.Layout.{over}
-use Rattle.image.specs.Reading.{is_zero}
+use Rattle.std.specs.List.{list_all, range_with_len}
+use Rattle.std.proofs.lemmas.List.Recursion.{same_from_clauses}
+use Rattle.image.specs.Reading.{is_zero, record_form, records_form}
 
 -- a copy of all of a list is that list written over
 pub paste_over : (old : List ℕ) (at : ℕ) (new : List ℕ) → paste old at new (length new) ≡ over old at new
@@ -59,6 +61,14 @@ pub zero_each : (b : List ℕ) → ((k : ℕ) → k < length b → get_or b k 0 
 zero_each [] each = refl
 zero_each (x ∷ xs) each =
     ap₂ (λ s t. s && t) (eq-eqb x 0 (each 0 (zero-lt-suc (length xs)))) (zero_each xs (λ k h. each (suc k) (suc-le-suc h)))
+
+-- which is what a search through them says
+pub zero_all : (b : List ℕ) → is_zero b ≡ list_all (λ x. eqb x 0) b
+zero_all = same_from_clauses is_zero (list_all (λ x. eqb x 0)) (λ x rest. eqb x 0 && rest) refl (λ _ _. refl) (λ _ _. refl)
+
+pub records_all : (b : List ℕ) → records_form b ≡ list_all (λ i. record_form (drop (16 + 64 * i) b)) (range_with_len 0 8)
+unfolding records_form
+records_all b = simp (and_assoc, and-true)
 
 -- and there is one list of them of each length
 pub zero_is : (b : List ℕ) → is_zero b ≡ true → b ≡ replicate (length b) 0

@@ -1,7 +1,7 @@
 -- The pieces of an image: their lengths, and how they are put one behind the other.
 -- Assumes nothing.
 use Rattle.std.specs.Prelude.{Some, None}
-use mathlib.Core.List.{List, [], ◌∷◌, ◌++◌, append-nil, append_assoc}
+use mathlib.Core.List.{List, [], ◌∷◌, ◌++◌, map, append-nil, append_assoc}
 use mathlib.Core.Path.{◌≡◌, refl, sym, ap, ap₂, ◌∙◌}
 use Prim.Native.Nat.{ℕ, zero, suc, ◌+◌, ◌*◌, ◌<◌, suc-le-suc}
 use native.Mathlib.Nat.{zero-lt-suc, not-suc-le-zero, le_of_suc-le-suc}
@@ -9,6 +9,7 @@ use native.Mathlib.Omega.{arith}
 use native.Mathlib.Numerals.{add-one}
 use lib.ListN.{length, get_or, take, drop, replicate, length-append, length-take, drop_of_length-le}
 use lib.Seq.{take_at, drop-drop}
+use Rattle.std.specs.List.{range_with_len}
 use Rattle.chip.specs.Fields.{zero_chip}
 use Rattle.chip.specs.declared.Chip.{Chip}
 use Rattle.chip.specs.declared.Destination.{Destination}
@@ -106,6 +107,10 @@ chips_at (suc n) b (suc i) d h =
     let more : 64 + 64 * i ≡ 64 * suc i = omega arith in
     chips_at n (drop 64 b) i d (le_of_suc-le-suc h)
     ∙ ap chip_in (drop-drop (64 * i) 64 b ∙ ap (λ (m : ℕ). drop m b) more)
+
+-- the chips of eight records, one by one
+pub chips_map : (b : List ℕ) → map (λ i. chip_in (drop (16 + 64 * i) b)) (range_with_len 0 8) ≡ chips_in 8 (drop 16 b)
+chips_map b = simp drop-drop
 
 -- each record is 64 bytes
 pub records-length : (cs : List Chip) → ((i : ℕ) → i < length cs → WholeChip (get_or cs i zero_chip)) → length (records cs) ≡ 64 * length cs

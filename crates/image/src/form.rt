@@ -2,9 +2,10 @@
 ghost use Rattle.std.specs.Prelude.{◌≡◌, ◌≤◌, length};
 ghost use Rattle.image.specs.Reading.{is_zero, response_form, destination_form, head_form, record_form, records_form};
 
-use crate::places::{ENABLE, IACK, RECORD, RECORDS};
+use crate::places::{ENABLE, IACK, record_at};
 
 // Whether bytes are all zero.
+#[tactic(auto, using(crate::proofs::Lists::zero_all))]
 fn is_zero(bytes: &[u8]) -> bool
     ensures { result ≡ is_zero bytes.now }
 {
@@ -28,6 +29,7 @@ fn is_destination(b: &[u8]) -> bool
 }
 
 // Whether the head is of the form. Its byte 3 needs no test here: it is a byte.
+#[tactic(auto, unfolding(crate::specs::Reading::head_form))]
 pub(crate) fn is_head(image: &[u8]) -> bool
     requires { 16 ≤ length image.now }
     ensures { result ≡ head_form image.now }
@@ -36,6 +38,7 @@ pub(crate) fn is_head(image: &[u8]) -> bool
 }
 
 // Whether a chip record is of the form.
+#[tactic(auto, unfolding(crate::specs::Reading::record_form))]
 fn is_record(r: &[u8]) -> bool
     requires { 64 ≤ length r.now }
     ensures { result ≡ record_form r.now }
@@ -44,9 +47,10 @@ fn is_record(r: &[u8]) -> bool
 }
 
 // Whether each chip record is.
+#[tactic(auto, using(crate::proofs::Lists::records_all))]
 pub(crate) fn has_records(image: &[u8]) -> bool
     requires { length image.now ≡ 528 }
     ensures { result ≡ records_form image.now }
 {
-    (0..8).all(|i| is_record(&image[RECORDS + RECORD * i..]))
+    (0..8).all(|i| is_record(record_at(image, i)))
 }

@@ -16,6 +16,7 @@ use crate::form::{has_records, is_head};
 pub const LENGTH: usize = 528;
 
 // Whether bytes are an image: 528 of them, and of the form.
+#[tactic(auto, unfolding(crate::specs::Reading::is_image))]
 pub fn is_image(image: &[u8]) -> bool
     ensures { result ≡ is_image image.now }
 {

@@ -3,12 +3,13 @@ ghost use Rattle.std.specs.Prelude.{◌≡◌, ◌+◌, ◌*◌, ◌≤◌, leng
 ghost use Rattle.image.specs.Reading.{destination_in, chip_in, chips_in, response_in, chain_in};
 
 use crate::places::{
-    COUNT, ENABLE, EVENT_HIGH, EVENT_LOW, IACK, RECORD, RECORDS, RESPONSE, RESPONSE_CHANNEL,
-    RESPONSE_CHIP, RESPONSE_DELIVERED, RESPONSE_LENGTH, RESPONSE_LEVEL,
+    COUNT, ENABLE, EVENT_HIGH, EVENT_LOW, IACK, RESPONSE, RESPONSE_CHANNEL, RESPONSE_CHIP,
+    RESPONSE_DELIVERED, RESPONSE_LENGTH, RESPONSE_LEVEL, record_at,
 };
 use chain::Chain;
 use chip::{Chip, Destination};
 use response::{Reply, Response};
+use std::array;
 
 // The destination that three bytes of a record name.
 fn destination_in(kind: u8, level: u8, place: u8) -> Destination
@@ -43,6 +44,7 @@ fn memory_in(r: &[u8]) -> [u8; 32]
 }
 
 // The chip whose record begins here.
+#[tactic(auto, unfolding(crate::specs::Reading::chip_in))]
 pub fn chip_in(r: &[u8]) -> Chip
     requires { 64 ≤ length r.now }
     ensures { result ≡ chip_in r.now }
@@ -63,6 +65,7 @@ pub fn chip_in(r: &[u8]) -> Chip
 }
 
 // The response that the head names.
+#[tactic(auto, unfolding(crate::specs::Reading::response_in))]
 pub fn response_in(image: &[u8]) -> Response
     requires { 16 ≤ length image.now }
     ensures { result ≡ response_in image.now }
@@ -88,14 +91,11 @@ fn chips_in(image: &[u8]) -> [Chip; 8]
     requires { length image.now ≡ 528 }
     ensures { result ≡ chips_in 8 (drop 16 image.now) }
 {
-    let mut chips = [Chip::zero(); 8];
-    for (i, chip) in chips.iter_mut().enumerate() {
-        *chip = chip_in(&image[RECORDS + RECORD * i..]);
-    }
-    chips
+    array::from_fn(|i| chip_in(record_at(image, i)))
 }
 
 // The chain of an image.
+#[tactic(auto, unfolding(crate::specs::Reading::chain_in))]
 pub fn chain_in(image: &[u8]) -> Chain
     requires { length image.now ≡ 528 }
     ensures { result ≡ chain_in image.now }

@@ -74,6 +74,7 @@ pub fn response_bytes(response: Response) -> [u8; 6]
 }
 
 // The head.
+#[tactic(auto, using(crate::proofs::Records::six), unfolding(crate::specs::Layout::head))]
 fn head_of(chain: Chain) -> [u8; 16]
     ensures { result ≡ head chain }
 {
