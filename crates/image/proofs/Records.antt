@@ -21,14 +21,6 @@ use Rattle.image.specs.Reading.{chip_in, chips_in}
 use Rattle.image.specs.OneToOne.{WholeChip}
 use Rattle.image.proofs.Lists.{over_next}
 
--- a destination's bytes, one by one
-pub three : (d : Destination) (rest : List ℕ) →
-    get_or (destination_bytes d) 0 0 ∷ get_or (destination_bytes d) 1 0 ∷ get_or (destination_bytes d) 2 0 ∷ rest ≡ destination_bytes d ++ rest
-three Nowhere rest = refl
-three Imr rest = refl
-three Acr rest = refl
-three (Level level place) rest = refl
-
 -- a response's bytes, one by one
 pub six : (r : Response) (rest : List ℕ) →
     get_or (response_bytes r) 0 0 ∷ get_or (response_bytes r) 1 0 ∷ get_or (response_bytes r) 2 0 ∷ get_or (response_bytes r) 3 0 ∷ get_or (response_bytes r) 4 0 ∷ get_or (response_bytes r) 5 0 ∷ rest ≡ response_bytes r ++ rest
@@ -61,17 +53,17 @@ record_length c whole =
     omega (arith, one, two, all, registers_sixteen c, whole.eight_codes, whole.all_memory)
 
 -- the four pieces of a chip record, written one behind the other
-pub record_written : (r : List ℕ) (c : Chip) → WholeChip c → length r ≡ 64 →
+pub record_written : (r : List ℕ) (c : Chip) → length c.counts ≡ 8 → length c.memory ≡ 32 → length r ≡ 64 →
     over (over (over (over r 0 (register_bytes c)) 16 c.counts) 24 (replicate 8 0)) 32 c.memory ≡ chip_record c
 unfolding chip_record
-record_written r c whole long =
+record_written r c eight all long =
     let a : List ℕ = register_bytes c in
-    let one : length (a ++ c.counts) ≡ 24 = omega (arith, length-append a c.counts, registers_sixteen c, whole.eight_codes) in
+    let one : length (a ++ c.counts) ≡ 24 = omega (arith, length-append a c.counts, registers_sixteen c, eight) in
     let two : length (a ++ c.counts ++ replicate 8 0) ≡ 32 = omega (arith, length-append (a ++ c.counts) (replicate 8 0), one) in
     ap (λ l. over (over (over l 16 c.counts) 24 (replicate 8 0)) 32 c.memory) (over_next [] r a 0 16 refl (omega (arith, registers_sixteen c)))
-    ∙ ap (λ l. over (over l 24 (replicate 8 0)) 32 c.memory) (over_next a r c.counts 16 24 (registers_sixteen c) (omega (arith, whole.eight_codes)))
+    ∙ ap (λ l. over (over l 24 (replicate 8 0)) 32 c.memory) (over_next a r c.counts 16 24 (registers_sixteen c) (omega (arith, eight)))
     ∙ ap (λ l. over l 32 c.memory) (over_next (a ++ c.counts) r (replicate 8 0) 24 32 one refl)
-    ∙ over_next (a ++ c.counts ++ replicate 8 0) r c.memory 32 64 two (omega (arith, whole.all_memory))
+    ∙ over_next (a ++ c.counts ++ replicate 8 0) r c.memory 32 64 two (omega (arith, all))
     ∙ ap (λ rest. a ++ c.counts ++ replicate 8 0 ++ c.memory ++ rest) (drop_of_length-le r {i = 64} (omega (arith, long)))
     ∙ append-nil (a ++ c.counts ++ replicate 8 0 ++ c.memory)
 

@@ -5,7 +5,6 @@ ghost use Rattle.image.specs.Reading.{is_zero, response_form, destination_form, 
 use crate::places::{ENABLE, IACK, record_at};
 
 // Whether bytes are all zero.
-#[tactic(auto, using(crate::proofs::Lists::zero_all))]
 fn is_zero(bytes: &[u8]) -> bool
     ensures { result ≡ is_zero bytes.now }
 {
@@ -47,7 +46,6 @@ fn is_record(r: &[u8]) -> bool
 }
 
 // Whether each chip record is.
-#[tactic(auto, using(crate::proofs::Lists::records_all))]
 pub(crate) fn has_records(image: &[u8]) -> bool
     requires { length image.now ≡ 528 }
     ensures { result ≡ records_form image.now }

@@ -53,6 +53,7 @@ fn register_bytes(chip: Chip) -> [u8; 16]
 }
 
 // A chip record.
+#[tactic(auto, using(crate::proofs::Records::record_written))]
 pub fn put_chip(r: &mut [u8], chip: Chip)
     requires { length r.old ≡ 64 }
     ensures { r.new ≡ chip_record chip }
