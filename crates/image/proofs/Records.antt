@@ -2,24 +2,26 @@
 -- Assumes nothing.
 use Rattle.std.specs.Prelude.{Some, None}
 use mathlib.Core.List.{List, [], ◌∷◌, ◌++◌, map, append-nil, append_assoc}
-use mathlib.Core.Path.{◌≡◌, refl, sym, ap, ap₂, ◌∙◌}
-use Prim.Native.Nat.{ℕ, zero, suc, ◌+◌, ◌*◌, ◌<◌, suc-le-suc}
+use mathlib.Core.Path.{◌≡◌, refl, sym, ap, ap₂, subst, ◌∙◌}
+use Prim.Native.Nat.{ℕ, zero, suc, ◌+◌, ◌-◌, ◌*◌, ◌<◌, suc-le-suc}
 use native.Mathlib.Nat.{zero-lt-suc, not-suc-le-zero, le_of_suc-le-suc}
 use native.Mathlib.Omega.{arith}
 use native.Mathlib.Numerals.{add-one}
 use lib.ListN.{length, get_or, take, drop, replicate, length-append, length-take, drop_of_length-le}
-use lib.Seq.{take_at, drop-drop}
+use lib.Seq.{take_at, take_all, drop-drop}
+use borrow.Rule.Slice.PartMut.{put_mid}
 use Rattle.std.specs.List.{range_with_len}
+use Rattle.chip.proofs.Past.{no_chip}
 use Rattle.chip.specs.Fields.{zero_chip}
 use Rattle.chip.specs.declared.Chip.{Chip}
 use Rattle.chip.specs.declared.Destination.{Destination}
 use Rattle.chip.specs.declared.Destination.TheVariants.{Nowhere, Imr, Acr, Level}
 use Rattle.chain.specs.declared.Chain.{Chain}
 use Rattle.response.specs.Held.{Response}
-use Rattle.image.specs.Layout.{destination_bytes, register_bytes, chip_record, response_bytes, head, records, over}
+use Rattle.image.specs.Layout.{destination_bytes, register_bytes, chip_record, response_bytes, head, records, image_of, over}
 use Rattle.image.specs.Reading.{chip_in, chips_in}
 use Rattle.image.specs.OneToOne.{WholeChip}
-use Rattle.image.proofs.Lists.{over_next}
+use Rattle.image.proofs.Lists.{over_next, part_over, length_over}
 
 -- a response's bytes, one by one
 pub six : (r : Response) (rest : List ℕ) →
@@ -79,17 +81,42 @@ records_more (c ∷ cs) zero d h = append-nil (chip_record c)
 records_more (c ∷ cs) (suc i) d h =
     ap (λ rest. chip_record c ++ rest) (records_more cs i d (le_of_suc-le-suc h)) ∙ sym (append_assoc (chip_record c) (records (take i cs)) (chip_record (get_or cs i d)))
 
--- what has been written of an image, and one record more
-pub image_more : (image : List ℕ) (s : Chain) (i : ℕ) (c d : Chip) → length (chip_record c) ≡ 64 → length image ≡ 528 → i < 8 → length s.chips ≡ 8 → c ≡ get_or s.chips i d →
-    take (16 + 64 * i) image ≡ head s ++ records (take i s.chips) →
-    take (16 + 64 * (i + 1)) (over image (16 + 64 * i) (chip_record c)) ≡ head s ++ records (take (i + 1) s.chips)
-image_more image s i c d full long in8 eight is so_far =
+-- An image written as far as the head and the first i chip records go:
+pub record Written (b : List ℕ) (s : Chain) (i : ℕ) : Type 0 where
+  pub long : length b ≡ 528
+  pub so_far : take (16 + 64 * i) b ≡ head s ++ records (take i s.chips)
+
+-- with the head,
+pub written_head : (b : List ℕ) (s : Chain) → length b ≡ 528 → Written (over b 0 (head s)) s 0
+written_head b s long =
+    record {
+      long = length_over b 0 (head s) (omega (arith, head_sixteen s, long)) ∙ long;
+      so_far = take_at (head s) (drop (0 + length (head s)) b) 16 (head_sixteen s) ∙ sym (append-nil (head s));
+    }
+
+-- with one record more, which was lent and is back,
+pub written_more : (b r : List ℕ) (s : Chain) (i : ℕ) → Written b s i → i < 8 → length s.chips ≡ 8 → length r ≡ 64 → r ≡ chip_record (get_or s.chips i no_chip) →
+    Written (put_mid (16 + 64 * i) (16 + 64 * i + 64 - (16 + 64 * i)) b r) s (i + 1)
+written_more b r s i written in8 eight full is =
     let at : ℕ = 16 + 64 * i in
-    let front : length (take at image ++ chip_record c) ≡ 16 + 64 * (i + 1) = omega (arith, length-append (take at image) (chip_record c), length-take at image, full, long, in8) in
-    take_at (take at image ++ chip_record c) (drop (at + length (chip_record c)) image) (16 + 64 * (i + 1)) front
-    ∙ ap₂ (λ l r. l ++ chip_record r) so_far is
-    ∙ append_assoc (head s) (records (take i s.chips)) (chip_record (get_or s.chips i d))
-    ∙ ap (λ rest. head s ++ rest) (sym (records_more s.chips i d (omega (arith, in8, eight))) ∙ ap (λ (n : ℕ). records (take n s.chips)) (sym (add-one i)))
+    let back : put_mid at (at + 64 - at) b r ≡ over b at r = part_over b r at (at + 64) (omega arith) (omega (arith, full)) in
+    let front : length (take at b ++ r) ≡ 16 + 64 * (i + 1) = omega (arith, length-append (take at b) r, length-take at b, full, written.long, in8) in
+    record {
+      long = ap length back ∙ length_over b at r (omega (arith, full, written.long, in8)) ∙ written.long;
+      so_far =
+          ap (take (16 + 64 * (i + 1))) back
+          ∙ take_at (take at b ++ r) (drop (at + length r) b) (16 + 64 * (i + 1)) front
+          ∙ ap₂ (λ l c. l ++ c) written.so_far is
+          ∙ append_assoc (head s) (records (take i s.chips)) (chip_record (get_or s.chips i no_chip))
+          ∙ ap (λ rest. head s ++ rest) (sym (records_more s.chips i no_chip (omega (arith, in8, eight))) ∙ ap (λ (n : ℕ). records (take n s.chips)) (sym (add-one i)));
+    }
+
+-- and with all eight
+pub written_all : (b : List ℕ) (s : Chain) (i : ℕ) → Written b s i → i ≡ 8 → length s.chips ≡ 8 → b ≡ image_of s
+unfolding image_of
+written_all b s i written all eight =
+    let at-end : take 528 b ≡ head s ++ records (take 8 s.chips) = subst (λ n. take (16 + 64 * n) b ≡ head s ++ records (take n s.chips)) all written.so_far in
+    sym (take_all 528 b (omega (arith, written.long))) ∙ at-end ∙ ap (λ cs. head s ++ records cs) (take_all 8 s.chips (omega (arith, eight)))
 
 -- the i-th of so many chips
 pub chips_at : (n : ℕ) (b : List ℕ) (i : ℕ) (d : Chip) → i < n → get_or (chips_in n b) i d ≡ chip_in (drop (64 * i) b)

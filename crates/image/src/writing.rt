@@ -101,6 +101,7 @@ fn head_of(chain: Chain) -> [u8; 16]
 }
 
 // The whole image.
+#[tactic(auto, using(crate::proofs::Records::written_head, crate::proofs::Records::written_more))]
 pub fn put_chain(image: &mut [u8], chain: Chain)
     requires { length image.old ≡ 528 }
     ensures { image.new ≡ image_of chain }
