@@ -2,18 +2,13 @@
 ghost use Rattle.std.specs.Prelude.{◌≡◌, ◌≤◌, length};
 ghost use Rattle.image.specs.Reading.{is_zero, response_form, destination_form, head_form, record_form, records_form};
 
-use crate::places::{ENABLE, IACK, RECORD, RECORDS};
+use crate::places::{ENABLE, IACK, record_at};
 
 // Whether bytes are all zero.
 fn is_zero(bytes: &[u8]) -> bool
     ensures { result ≡ is_zero bytes.now }
 {
-    for k in 0usize..bytes.len() {
-        if bytes[k] != 0 {
-            return false;
-        }
-    }
-    true
+    bytes.iter().all(|byte| *byte == 0)
 }
 
 // Whether six bytes are a response.
@@ -33,6 +28,7 @@ fn is_destination(b: &[u8]) -> bool
 }
 
 // Whether the head is of the form. Its byte 3 needs no test here: it is a byte.
+#[tactic(auto, unfolding(crate::specs::Reading::head_form))]
 pub(crate) fn is_head(image: &[u8]) -> bool
     requires { 16 ≤ length image.now }
     ensures { result ≡ head_form image.now }
@@ -41,6 +37,7 @@ pub(crate) fn is_head(image: &[u8]) -> bool
 }
 
 // Whether a chip record is of the form.
+#[tactic(auto, unfolding(crate::specs::Reading::record_form))]
 fn is_record(r: &[u8]) -> bool
     requires { 64 ≤ length r.now }
     ensures { result ≡ record_form r.now }
@@ -53,11 +50,5 @@ pub(crate) fn has_records(image: &[u8]) -> bool
     requires { length image.now ≡ 528 }
     ensures { result ≡ records_form image.now }
 {
-    for i in 0usize..8 {
-        let at = RECORDS + RECORD * i;
-        if !is_record(&image[at..]) {
-            return false;
-        }
-    }
-    true
+    (0..8).all(|i| is_record(record_at(image, i)))
 }

@@ -16,11 +16,9 @@ use crate::form::{has_records, is_head};
 pub const LENGTH: usize = 528;
 
 // Whether bytes are an image: 528 of them, and of the form.
+#[tactic(auto, unfolding(crate::specs::Reading::is_image))]
 pub fn is_image(image: &[u8]) -> bool
     ensures { result ≡ is_image image.now }
 {
-    if image.len() != LENGTH {
-        return false;
-    }
-    is_head(image) & has_records(image)
+    image.len() == LENGTH && is_head(image) & has_records(image)
 }

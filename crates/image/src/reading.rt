@@ -3,13 +3,13 @@ ghost use Rattle.std.specs.Prelude.{◌≡◌, ◌+◌, ◌*◌, ◌≤◌, leng
 ghost use Rattle.image.specs.Reading.{destination_in, chip_in, chips_in, response_in, chain_in};
 
 use crate::places::{
-    COUNT, ENABLE, EVENT_HIGH, EVENT_LOW, IACK, RECORD, RECORDS, RESPONSE, RESPONSE_CHANNEL,
-    RESPONSE_CHIP, RESPONSE_DELIVERED, RESPONSE_LENGTH, RESPONSE_LEVEL,
+    COUNT, ENABLE, EVENT_HIGH, EVENT_LOW, IACK, RESPONSE, RESPONSE_CHANNEL, RESPONSE_CHIP,
+    RESPONSE_DELIVERED, RESPONSE_LENGTH, RESPONSE_LEVEL, record_at,
 };
-use crate::writing::put_bytes;
 use chain::Chain;
 use chip::{Chip, Destination};
 use response::{Reply, Response};
+use std::array;
 
 // The destination that three bytes of a record name.
 fn destination_in(kind: u8, level: u8, place: u8) -> Destination
@@ -28,8 +28,8 @@ fn counts_in(r: &[u8]) -> [u8; 8]
     requires { 64 ≤ length r.now }
     ensures { result ≡ take 8 (drop 16 r.now) }
 {
-    let mut counts = [0u8; 8];
-    put_bytes(&mut counts, 0, &r[16..24]);
+    let mut counts = [0; 8];
+    counts.copy_from_slice(&r[16..24]);
     counts
 }
 
@@ -38,12 +38,13 @@ fn memory_in(r: &[u8]) -> [u8; 32]
     requires { 64 ≤ length r.now }
     ensures { result ≡ take 32 (drop 32 r.now) }
 {
-    let mut memory = [0u8; 32];
-    put_bytes(&mut memory, 0, &r[32..64]);
+    let mut memory = [0; 32];
+    memory.copy_from_slice(&r[32..64]);
     memory
 }
 
 // The chip whose record begins here.
+#[tactic(auto, unfolding(crate::specs::Reading::chip_in))]
 pub fn chip_in(r: &[u8]) -> Chip
     requires { 64 ≤ length r.now }
     ensures { result ≡ chip_in r.now }
@@ -64,21 +65,18 @@ pub fn chip_in(r: &[u8]) -> Chip
 }
 
 // The response that the head names.
+#[tactic(auto, unfolding(crate::specs::Reading::response_in))]
 pub fn response_in(image: &[u8]) -> Response
     requires { 16 ≤ length image.now }
     ensures { result ≡ response_in image.now }
 {
-    if image[RESPONSE] == 1 {
-        Some(Reply {
-            chip: image[RESPONSE_CHIP],
-            channel: image[RESPONSE_CHANNEL],
-            level: image[RESPONSE_LEVEL],
-            length: image[RESPONSE_LENGTH],
-            delivered: image[RESPONSE_DELIVERED],
-        })
-    } else {
-        None
-    }
+    (image[RESPONSE] == 1).then_some(Reply {
+        chip: image[RESPONSE_CHIP],
+        channel: image[RESPONSE_CHANNEL],
+        level: image[RESPONSE_LEVEL],
+        length: image[RESPONSE_LENGTH],
+        delivered: image[RESPONSE_DELIVERED],
+    })
 }
 
 // The event number: its low byte first.
@@ -93,28 +91,21 @@ fn chips_in(image: &[u8]) -> [Chip; 8]
     requires { length image.now ≡ 528 }
     ensures { result ≡ chips_in 8 (drop 16 image.now) }
 {
-    let zero = Chip::zero();
-    let mut chips = [zero; 8];
-    for i in 0usize..8 {
-        let at = RECORDS + RECORD * i;
-        chips[i] = chip_in(&image[at..]);
-    }
-    chips
+    array::from_fn(|i| chip_in(record_at(image, i)))
 }
 
 // The chain of an image.
+#[tactic(auto, unfolding(crate::specs::Reading::chain_in))]
 pub fn chain_in(image: &[u8]) -> Chain
     requires { length image.now ≡ 528 }
     ensures { result ≡ chain_in image.now }
 {
-    let chips = chips_in(image);
-    let response = response_in(image);
     Chain {
         count: image[COUNT],
-        chips: chips,
+        chips: chips_in(image),
         enable: image[ENABLE] == 1,
         iack: image[IACK] == 1,
-        response: response,
+        response: response_in(image),
         event: event_of(image[EVENT_LOW], image[EVENT_HIGH]),
     }
 }
