@@ -9,6 +9,7 @@ use event::Numbered;
 use text::put::{put_byte_field, put_field};
 
 // A step: its name, and what it takes.
+#[tactic(auto, unfolding(crate::specs::Spelled::spelled))]
 pub fn put_step(to: &mut [u8], at: usize, step: Numbered) -> usize
     ensures { (to.new, result) ≡ written (to.old, at) (spelled step) }
 {
