@@ -14,7 +14,6 @@ use Rattle.bits.specs.Below.{every}
 use Rattle.text.specs.Words.{is_blank, is_letter, lead, word_start, word_end, word, decimal_in, hex_in}
 use Rattle.text.specs.Written.{decimal, hex_byte}
 use Rattle.std.specs.Prelude.{Option, Some, None}
-use Rattle.text.specs.declared.Sort.TheVariants.{Blank, Letter}
 
 -- each byte of a text passes a test
 abbrev pub each : (ℕ → Bool) → List ℕ → Bool
@@ -38,10 +37,10 @@ plain_byte c = is_letter c && not (eqb c 13)
 abbrev pub plain : List ℕ → Bool
 plain w = ltb 0 (length w) && each plain_byte w
 
-letters : (w rest : List ℕ) → each plain_byte w ≡ true → lead Letter rest ≡ 0 → lead Letter (w ++ rest) ≡ length w
+letters : (w rest : List ℕ) → each plain_byte w ≡ true → lead is_letter rest ≡ 0 → lead is_letter (w ++ rest) ≡ length w
 letters [] rest ok none = none
 letters (c ∷ cs) rest ok none =
-    ap (λ t. cond t (suc (lead Letter (cs ++ rest))) 0) (both_left (is_letter c) (not (eqb c 13)) (both_left (plain_byte c) (each plain_byte cs) ok))
+    ap (λ t. cond t (suc (lead is_letter (cs ++ rest))) 0) (both_left (is_letter c) (not (eqb c 13)) (both_left (plain_byte c) (each plain_byte cs) ok))
     ∙ ap suc (letters cs rest (both_right (plain_byte c) (each plain_byte cs) ok) none)
 
 no_letter_is_blank : (c : ℕ) → is_letter c ≡ true → is_blank c ≡ false
@@ -55,19 +54,19 @@ starts_there : (w rest : List ℕ) → plain w ≡ true → word_start (32 ∷ (
 unfolding word_start
 starts_there [] rest ok = absurd (false≢true ok)
 starts_there (c ∷ cs) rest ok =
-    ap (λ t. suc (cond t (suc (lead Blank (cs ++ rest))) 0))
+    ap (λ t. suc (cond t (suc (lead is_blank (cs ++ rest))) 0))
     (no_letter_is_blank c (both_left (is_letter c) (not (eqb c 13)) (both_left (plain_byte c) (each plain_byte cs) (both_right (ltb 0 (length (c ∷ cs))) (each plain_byte (c ∷ cs)) ok))))
 
-ends_there : (w rest : List ℕ) → plain w ≡ true → lead Letter rest ≡ 0 → word_end (32 ∷ (w ++ rest)) ≡ suc (length w)
+ends_there : (w rest : List ℕ) → plain w ≡ true → lead is_letter rest ≡ 0 → word_end (32 ∷ (w ++ rest)) ≡ suc (length w)
 unfolding word_end
 ends_there w rest ok none =
     let more : 1 + length w ≡ suc (length w) = omega arith in
-    ap (λ (n : ℕ). n + lead Letter (drop n (32 ∷ (w ++ rest)))) (starts_there w rest ok)
+    ap (λ (n : ℕ). n + lead is_letter (drop n (32 ∷ (w ++ rest)))) (starts_there w rest ok)
     ∙ ap (λ (n : ℕ). 1 + n) (letters w rest (both_right (ltb 0 (length w)) (each plain_byte w) ok) none)
     ∙ more
 
 -- a word behind a blank, and what is behind it
-word_back : (w rest : List ℕ) → plain w ≡ true → lead Letter rest ≡ 0 → word (32 ∷ (w ++ rest)) ≡ w
+word_back : (w rest : List ℕ) → plain w ≡ true → lead is_letter rest ≡ 0 → word (32 ∷ (w ++ rest)) ≡ w
 unfolding word
 word_back w rest ok none =
     let long : word_end (32 ∷ (w ++ rest)) - 1 ≡ length w = omega (arith, ends_there w rest ok none) in
@@ -75,7 +74,7 @@ word_back w rest ok none =
     ∙ ap (λ (n : ℕ). take n (w ++ rest)) long
     ∙ take_at w rest (length w) refl
 
-rest_back : (w rest : List ℕ) → plain w ≡ true → lead Letter rest ≡ 0 → drop (word_end (32 ∷ (w ++ rest))) (32 ∷ (w ++ rest)) ≡ rest
+rest_back : (w rest : List ℕ) → plain w ≡ true → lead is_letter rest ≡ 0 → drop (word_end (32 ∷ (w ++ rest))) (32 ∷ (w ++ rest)) ≡ rest
 rest_back w rest ok none = ap (λ (n : ℕ). drop n (32 ∷ (w ++ rest))) (ends_there w rest ok none) ∙ drop_at w rest (length w) refl
 
 -- a number that is written is a plain word that says it; computed for each of the 256
@@ -111,7 +110,7 @@ hex_back n h = back hex_byte hex_in refl n h
 pub number_back :
     (write : ℕ → List ℕ) (read : List ℕ → Option ℕ) (n : ℕ) (rest : List ℕ)
     → Back write read n
-    → lead Letter rest ≡ 0
+    → lead is_letter rest ≡ 0
     → (read (word (32 ∷ (write n ++ rest))) ≡ Some n) × (drop (word_end (32 ∷ (write n ++ rest))) (32 ∷ (write n ++ rest)) ≡ rest)
 number_back write read n rest is none =
     (ap read (word_back (write n) rest is.0 none) ∙ is.1, rest_back (write n) rest is.0 none)

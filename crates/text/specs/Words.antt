@@ -1,7 +1,5 @@
 -- The lines of a text, the words of a line, and the numbers that words say.
 use Rattle.std.specs.Prelude.{Bool, true, false, cond, ◌&&◌, ◌||◌, not, Option, Some, None, List, [], ◌∷◌, ℕ, zero, suc, ◌+◌, ◌-◌, ◌*◌, leb, eqb, length, take, drop}
-use Rattle.text.specs.declared.Sort.{Sort}
-use Rattle.text.specs.declared.Sort.TheVariants.{Blank, Letter, Inside}
 
 -- blanks are the space and the tab
 abbrev pub is_blank : ℕ → Bool
@@ -11,27 +9,25 @@ is_blank c = eqb c 32 || eqb c 9
 abbrev pub is_letter : ℕ → Bool
 is_letter c = not (is_blank c || eqb c 35)
 
--- the bytes that are looked for: blanks, letters of a word, or those inside a line, which are all but the line feed (10)
-abbrev pub passes : Sort → ℕ → Bool
-passes Blank c = is_blank c
-passes Letter c = is_letter c
-passes Inside c = not (eqb c 10)
+-- and any byte stands inside a line, but for the line feed (10)
+abbrev pub is_inside : ℕ → Bool
+is_inside c = not (eqb c 10)
 
--- how many bytes at the start of a text are of a sort
-abbrev pub lead : Sort → List ℕ → ℕ
-lead sort [] = 0
-lead sort (c ∷ cs) = cond (passes sort c) (suc (lead sort cs)) 0
+-- how many bytes at the start of a text pass a test
+abbrev pub lead : (ℕ → Bool) → List ℕ → ℕ
+lead passes [] = 0
+lead passes (c ∷ cs) = cond (passes c) (suc (lead passes cs)) 0
 
 -- where the first line of a text ends
 unfoldable pub line_end : List ℕ → ℕ
-line_end text = lead Inside text
+line_end text = lead is_inside text
 
 -- where the first word of a line begins, and where it ends; both at one place if there is no word
 unfoldable pub word_start : List ℕ → ℕ
-word_start line = lead Blank line
+word_start line = lead is_blank line
 
 unfoldable pub word_end : List ℕ → ℕ
-word_end line = word_start line + lead Letter (drop (word_start line) line)
+word_end line = word_start line + lead is_letter (drop (word_start line) line)
 
 -- the first word, and the rest of the line behind it
 unfoldable pub word : List ℕ → List ℕ

@@ -14,11 +14,3 @@ pub enum Way {
     Shown,
     Small,
 }
-
-// Bytes that stand together: blanks, the letters of a word, or what is inside a line.
-#[derive(Clone, Copy)]
-pub enum Sort {
-    Blank,
-    Letter,
-    Inside,
-}

@@ -9,7 +9,7 @@ fn is_digit(c: u8) -> bool
 }
 
 // What a word says in decimal.
-#[tactic(auto, using(crate::proofs::Reading::decimal_none, crate::proofs::Reading::decimal_some, crate::proofs::Reading::decimal_over, crate::proofs::Reading::decimal_ends))]
+#[tactic(auto, using(crate::proofs::Reading::decimal_none, crate::proofs::Reading::decimal_some, crate::proofs::Reading::decimal_over))]
 pub fn decimal_in(word: &[u8]) -> Option<u8>
     ensures { result ≡ decimal_in word.now }
 {
