@@ -7,7 +7,7 @@ use crate::kinds::{START, form_of, kind_of};
 use crate::{Argument, Expected, Step};
 use event::{Event, Numbered};
 use text::numbers::{decimal_in, hex_in};
-use text::words::{word_at, word_end, word_start};
+use text::words::{first, word_at, word_end, word_start};
 
 // The most bytes that a line may have, its line feed not counted.
 pub const LONGEST: usize = 1024;
@@ -32,11 +32,12 @@ pub fn found_in(line: &[u8], place: u8) -> &[u8]
 }
 
 // What is looked at of a line.
+#[tactic(auto, using(crate::proofs::Cuts::a_long_line))]
 fn looked_at(line: &[u8]) -> &[u8]
     ensures { result.now ≡ take (looked_at line.now) line.now }
 {
     if line.len() > LONGEST {
-        &line[..LONGEST]
+        first(line, LONGEST)
     } else {
         text_of(line)
     }
@@ -114,7 +115,7 @@ fn read_as(kind: u8, rest: &[u8]) -> Step
 }
 
 // What stands behind the first argument of a line, which is its first word or no word at all.
-#[tactic(auto, unfolding(crate::specs::Lines::behind_argument))]
+#[tactic(auto, unfolding(crate::specs::Lines::behind_argument, text::specs::Words::behind))]
 fn behind_argument(argument: Argument, line: &[u8]) -> &[u8]
     ensures { result.now ≡ behind_argument argument line.now }
 {
