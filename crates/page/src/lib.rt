@@ -52,6 +52,7 @@ fn put_event(
 }
 
 // The byte that an answer has.
+#[tactic(auto, using(text::proofs::Written::one_after_the_other, text::proofs::Written::written_none))]
 fn put_byte(to: &mut [u8], at: usize, answer: Answer) -> usize
     ensures { (to.new, result) ≡ written (to.old, at) (byte_text answer) }
 {
@@ -62,6 +63,7 @@ fn put_byte(to: &mut [u8], at: usize, answer: Answer) -> usize
 }
 
 // Two lines for each chip in the count.
+#[tactic(auto, using(crate::proofs::Chips::chips_more, crate::proofs::Chips::chips_end))]
 fn put_chips(to: &mut [u8], at: usize, chain: Chain) -> usize
     ensures { (to.new, result) ≡ written (to.old, at) (chips_from chain.count 0 chain) }
 {
@@ -73,6 +75,7 @@ fn put_chips(to: &mut [u8], at: usize, chain: Chain) -> usize
 }
 
 // The two lines of a chip are its two views.
+#[tactic(auto, using(text::proofs::Written::one_after_the_other, text::proofs::Written::written_none))]
 fn put_chip(to: &mut [u8], at: usize, i: u8, chain: Chain) -> usize
     ensures { (to.new, result) ≡ written (to.old, at) (chip_lines i chain) }
 {

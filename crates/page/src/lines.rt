@@ -3,29 +3,28 @@ ghost use Rattle.std.specs.Prelude.{◌≡◌};
 ghost use Rattle.page.specs.Page.{gint_field, heading, chip_pins, chain_pins, pins_parts, request_bytes, state_fields, registers_parts, pins_line, registers_line};
 ghost use Rattle.text.specs.Written.{joined, written};
 
-use refusal::is_accepted;
 use text::put::{put, put_byte_field, put_field};
 use views::{PinView, Pins, RegisterView, Registers};
 
 // The line of the pins, from the pin view.
+#[tactic(auto, using(text::proofs::Written::one_after_the_other, text::proofs::Written::written_none), unfolding(crate::specs::Page::pins_line))]
 pub(crate) fn put_pins_line(to: &mut [u8], at: usize, i: u8, view: PinView) -> usize
     ensures { (to.new, result) ≡ written (to.old, at) (pins_line i view) }
 {
-    if is_accepted(view.verdict) {
-        put_pins(to, at, i, view.picture)
-    } else {
-        at
+    match view.verdict {
+        Ok(()) => put_pins(to, at, i, view.picture),
+        Err(_) => at,
     }
 }
 
 // The line of the registers, from the register view.
+#[tactic(auto, using(text::proofs::Written::one_after_the_other, text::proofs::Written::written_none), unfolding(crate::specs::Page::registers_line))]
 pub(crate) fn put_registers_line(to: &mut [u8], at: usize, i: u8, view: RegisterView) -> usize
     ensures { (to.new, result) ≡ written (to.old, at) (registers_line i view) }
 {
-    if is_accepted(view.verdict) {
-        put_registers(to, at, i, view.table)
-    } else {
-        at
+    match view.verdict {
+        Ok(()) => put_registers(to, at, i, view.table),
+        Err(_) => at,
     }
 }
 

@@ -9,6 +9,7 @@ use event::Numbered;
 use text::put::{put_byte_field, put_field};
 
 // A step: its name, and what it takes.
+#[tactic(auto, using(text::proofs::Written::one_after_the_other, text::proofs::Written::written_none), unfolding(crate::specs::Spelled::spelled))]
 pub fn put_step(to: &mut [u8], at: usize, step: Numbered) -> usize
     ensures { (to.new, result) ≡ written (to.old, at) (spelled step) }
 {
@@ -20,6 +21,7 @@ pub fn put_step(to: &mut [u8], at: usize, step: Numbered) -> usize
 }
 
 // An argument: a blank, and a byte in hex or a number in decimal; nothing where the step does not take it.
+#[tactic(auto, using(text::proofs::Written::written_none))]
 fn put_argument(to: &mut [u8], at: usize, argument: Argument, n: u8) -> usize
     ensures { (to.new, result) ≡ written (to.old, at) (spelled_as argument n) }
 {
