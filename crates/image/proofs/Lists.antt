@@ -1,16 +1,16 @@
 -- Lists of bytes: written over, and zero.
 -- Assumes nothing.
-use mathlib.Core.Bool.{true, false, ◌&&◌, and_assoc, and-true}
-use mathlib.Core.List.{List, [], ◌∷◌, ◌++◌, append-nil, append_assoc}
+use mathlib.Core.Bool.{true, ◌&&◌, and_assoc, and-true}
+use mathlib.Core.List.{List, [], ◌∷◌, ◌++◌, append_assoc}
 use mathlib.Core.Path.{◌≡◌, refl, sym, ap, ap₂, ◌∙◌}
-use Prim.Native.Nat.{ℕ, zero, suc, ◌+◌, ◌-◌, ◌*◌, ◌≤◌, ◌<◌, suc-le-suc}
-use native.Mathlib.Nat.{zero-add, zero-lt-suc, le_of_eq, le_refl}
+use Prim.Native.Nat.{ℕ, ◌+◌, ◌-◌, ◌*◌, ◌≤◌}
+use native.Mathlib.Nat.{le_refl}
 use lib.Dec.{eqb}
-use lib.ListN.{length, get_or, take, drop, replicate, drop_of_length-le}
-use lib.Seq.{paste, length-paste, take-length, take_all, take_at, drop-drop, drop-append-add}
+use lib.ListN.{length, take, drop, replicate}
+use lib.Seq.{paste, length-paste, take-length, take_at, drop-drop, drop-append-add}
 use borrow.Rule.Slice.PartMut.{put_mid, Post-is}
-use borrow.Author.Tests.{ne_eqb, eq-eqb, eqb-true}
-use Rattle.bits.proofs.Below.{both_left, both_right, both_not}
+use borrow.Author.Tests.{eqb-true}
+use Rattle.bits.proofs.Below.{both_left, both_right}
 use Rattle.image.specs.Layout.{over}
 use Rattle.std.specs.List.{list_all, range_with_len}
 use Rattle.std.proofs.lemmas.List.Recursion.{same_from_clauses}
@@ -38,16 +38,16 @@ part_over xs ys a e h ends =
 pub length_over : (old : List ℕ) (at : ℕ) (new : List ℕ) → at + length new ≤ length old → length (over old at new) ≡ length old
 length_over old at new h = ap length (sym (paste_over old at new)) ∙ length-paste old at new (length new) h (le_refl (length new))
 
--- which is what a search through them says
+-- there is one list of zeros of each length
+pub zero_is : (b : List ℕ) → is_zero b ≡ true → b ≡ replicate (length b) 0
+zero_is [] h = refl
+zero_is (x ∷ xs) h =
+    ap₂ (λ z zs. z ∷ zs) (eqb-true x 0 (both_left (eqb x 0) (is_zero xs) h)) (zero_is xs (both_right (eqb x 0) (is_zero xs) h))
+
+-- `is_zero` and `records_form` in the words in which std says what `all` gives
 pub zero_all : (b : List ℕ) → is_zero b ≡ list_all (λ x. eqb x 0) b
 zero_all = same_from_clauses is_zero (list_all (λ x. eqb x 0)) (λ x rest. eqb x 0 && rest) refl (λ _ _. refl) (λ _ _. refl)
 
 pub records_all : (b : List ℕ) → records_form b ≡ list_all (λ i. record_form (drop (16 + 64 * i) b)) (range_with_len 0 8)
 unfolding records_form
 records_all b = simp (and_assoc, and-true)
-
--- and there is one list of them of each length
-pub zero_is : (b : List ℕ) → is_zero b ≡ true → b ≡ replicate (length b) 0
-zero_is [] h = refl
-zero_is (x ∷ xs) h =
-    ap₂ (λ z zs. z ∷ zs) (eqb-true x 0 (both_left (eqb x 0) (is_zero xs) h)) (zero_is xs (both_right (eqb x 0) (is_zero xs) h))

@@ -23,12 +23,6 @@ use Rattle.image.specs.Reading.{chip_in, chips_in}
 use Rattle.image.specs.OneToOne.{WholeChip}
 use Rattle.image.proofs.Lists.{over_next, part_over, length_over}
 
--- a response's bytes, one by one
-pub six : (r : Response) (rest : List ℕ) →
-    get_or (response_bytes r) 0 0 ∷ get_or (response_bytes r) 1 0 ∷ get_or (response_bytes r) 2 0 ∷ get_or (response_bytes r) 3 0 ∷ get_or (response_bytes r) 4 0 ∷ get_or (response_bytes r) 5 0 ∷ rest ≡ response_bytes r ++ rest
-six None rest = refl
-six (Some r) rest = refl
-
 destination_eight : (d : Destination) → length (destination_bytes d ++ replicate 5 0) ≡ 8
 destination_eight Nowhere = refl
 destination_eight Imr = refl

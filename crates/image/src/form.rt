@@ -16,7 +16,7 @@ fn is_response(b: &[u8]) -> bool
     requires { length b.now ≡ 6 }
     ensures { result ≡ response_form b.now }
 {
-    (b[0] == 1) | is_zero(b)
+    b[0] == 1 || is_zero(b)
 }
 
 // Whether three bytes are a destination.
@@ -24,7 +24,7 @@ fn is_destination(b: &[u8]) -> bool
     requires { length b.now ≡ 3 }
     ensures { result ≡ destination_form b.now }
 {
-    (b[0] == 3) | (b[0] <= 2) & is_zero(&b[1..3])
+    b[0] == 3 || b[0] <= 2 && is_zero(&b[1..])
 }
 
 // Whether the head is of the form. Its byte 3 needs no test here: it is a byte.
@@ -33,7 +33,7 @@ pub(crate) fn is_head(image: &[u8]) -> bool
     requires { 16 ≤ length image.now }
     ensures { result ≡ head_form image.now }
 {
-    (image[ENABLE] <= 1) & (image[IACK] <= 1) & is_response(&image[5..11]) & is_zero(&image[11..16])
+    image[ENABLE] <= 1 && image[IACK] <= 1 && is_response(&image[5..11]) && is_zero(&image[11..16])
 }
 
 // Whether a chip record is of the form.
@@ -42,7 +42,7 @@ fn is_record(r: &[u8]) -> bool
     requires { 64 ≤ length r.now }
     ensures { result ≡ record_form r.now }
 {
-    is_destination(&r[8..11]) & is_zero(&r[11..16]) & is_zero(&r[24..32])
+    is_destination(&r[8..11]) && is_zero(&r[11..16]) && is_zero(&r[24..32])
 }
 
 // Whether each chip record is.

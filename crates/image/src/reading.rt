@@ -23,24 +23,14 @@ fn destination_in(kind: u8, level: u8, place: u8) -> Destination
     }
 }
 
-// The count codes of a record.
-fn counts_in(r: &[u8]) -> [u8; 8]
-    requires { 64 ≤ length r.now }
-    ensures { result ≡ take 8 (drop 16 r.now) }
+// So many bytes of a record, from a place on.
+fn bytes_in<const N: usize>(r: &[u8], at: usize) -> [u8; N]
+    requires { at + N ≤ length r.now }
+    ensures { result ≡ take N (drop at r.now) }
 {
-    let mut counts = [0; 8];
-    counts.copy_from_slice(&r[16..24]);
-    counts
-}
-
-// The response memory of a record.
-fn memory_in(r: &[u8]) -> [u8; 32]
-    requires { 64 ≤ length r.now }
-    ensures { result ≡ take 32 (drop 32 r.now) }
-{
-    let mut memory = [0; 32];
-    memory.copy_from_slice(&r[32..64]);
-    memory
+    let mut bytes = [0; N];
+    bytes.copy_from_slice(&r[at..at + N]);
+    bytes
 }
 
 // The chip whose record begins here.
@@ -56,8 +46,8 @@ pub fn chip_in(r: &[u8]) -> Chip
         acr: r[3],
         mode: r[4],
         command: r[5],
-        memory: memory_in(r),
-        counts: counts_in(r),
+        memory: bytes_in(r, 32),
+        counts: bytes_in(r, 16),
         lines: r[6],
         pointer: r[7],
         destination: destination_in(r[8], r[9], r[10]),
@@ -83,7 +73,7 @@ pub fn response_in(image: &[u8]) -> Response
 pub fn event_of(low: u8, high: u8) -> u16
     ensures { result ≡ low + 256 * high }
 {
-    low as u16 + 256 * high as u16
+    u16::from_le_bytes([low, high])
 }
 
 // The eight chips of an image.

@@ -31,7 +31,7 @@ fn destination_bytes(destination: Destination) -> [u8; 3]
 fn register_bytes(chip: Chip) -> [u8; 16]
     ensures { result ≡ register_bytes chip }
 {
-    let to = destination_bytes(chip.destination);
+    let [kind, level, place] = destination_bytes(chip.destination);
     [
         chip.irr,
         chip.isr,
@@ -41,9 +41,9 @@ fn register_bytes(chip: Chip) -> [u8; 16]
         chip.command,
         chip.lines,
         chip.pointer,
-        to[0],
-        to[1],
-        to[2],
+        kind,
+        level,
+        place,
         0,
         0,
         0,
@@ -75,23 +75,24 @@ pub fn response_bytes(response: Response) -> [u8; 6]
 }
 
 // The head.
-#[tactic(auto, using(crate::proofs::Records::six), unfolding(crate::specs::Layout::head))]
+#[tactic(auto, unfolding(crate::specs::Layout::head))]
 fn head_of(chain: Chain) -> [u8; 16]
     ensures { result ≡ head chain }
 {
-    let to = response_bytes(chain.response);
+    let event = chain.event.to_le_bytes();
+    let response = response_bytes(chain.response);
     [
         chain.count,
         bits::digit_of(chain.enable),
         bits::digit_of(chain.iack),
-        (chain.event % 256) as u8,
-        (chain.event / 256) as u8,
-        to[0],
-        to[1],
-        to[2],
-        to[3],
-        to[4],
-        to[5],
+        event[0],
+        event[1],
+        response[0],
+        response[1],
+        response[2],
+        response[3],
+        response[4],
+        response[5],
         0,
         0,
         0,
