@@ -120,10 +120,7 @@ impl Report {
                 chain,
                 put_page(page, 0, self.line, step, answer, chain),
             ),
-            Err(why) => self.ends(
-                put_refused(page, 0, self.line, step, why),
-                Course::Stopped,
-            ),
+            Err(why) => self.ends(put_refused(page, 0, self.line, step, why), Course::Stopped),
         }
     }
 
