@@ -52,6 +52,7 @@ impl Course {
 
 impl Report {
     // Before the first line.
+    #[tactic(auto, unfolding(crate::specs::Report::at_first, chain::specs::Start::start_of))]
     pub fn new() -> Report
         ensures { result ≡ at_first }
     {
@@ -63,6 +64,7 @@ impl Report {
     }
 
     // A line, without its line feed, prints onto the page.
+    #[tactic(auto, using(text::proofs::Written::written_none), unfolding(crate::specs::Report::reply, crate::specs::Report::line_reply))]
     pub fn take(self, line: &[u8], page: &mut [u8]) -> Taken
         ensures { Tells (reply line.now self) page.old result page.new }
     {
@@ -90,6 +92,7 @@ impl Report {
     }
 
     // The last line of a list, which ends with it.
+    #[tactic(auto, using(text::proofs::Written::one_after_the_other), unfolding(crate::specs::Report::last_reply, crate::specs::Report::closed))]
     pub fn take_last(self, line: &[u8], page: &mut [u8]) -> Taken
         ensures { Tells (last_reply line.now self) page.old result page.new }
     {
@@ -106,6 +109,7 @@ impl Report {
     }
 
     // An accepted step prints its page, a refused one its refusal.
+    #[tactic(auto, unfolding(crate::specs::Report::step_reply))]
     fn answer(self, step: Numbered, outcome: Outcome, page: &mut [u8]) -> Taken
         ensures { Tells (step_reply step outcome.answer outcome.chain self) page.old result page.new }
     {
@@ -116,10 +120,7 @@ impl Report {
                 chain,
                 put_page(page, 0, self.line, step, answer, chain),
             ),
-            Err(why) => self.ends(
-                put_refused(page, 0, self.line, step, why),
-                Course::Stopped,
-            ),
+            Err(why) => self.ends(put_refused(page, 0, self.line, step, why), Course::Stopped),
         }
     }
 

@@ -138,13 +138,7 @@ fn value_of(argument: Argument, found: &[u8]) -> Option<u8>
 
 // The step that some arguments say, or the first of them that is wrong.
 #[tactic(auto, unfolding(crate::specs::Lines::step_from))]
-fn step_from(
-    kind: u8,
-    chip: Option<u8>,
-    channel: Option<u8>,
-    value: Option<u8>,
-    over: bool,
-) -> Step
+fn step_from(kind: u8, chip: Option<u8>, channel: Option<u8>, value: Option<u8>, over: bool) -> Step
     ensures { result ≡ step_from kind chip channel value over }
 {
     let form = form_of(kind);
