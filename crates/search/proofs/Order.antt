@@ -5,10 +5,8 @@ use Rattle.std.specs.Option.{unwrap_or}
 use mathlib.Core.Path.{◌≡◌, refl, ap, ◌∙◌}
 use mathlib.Core.Bool.{Bool, true, false, cond, not, ◌&&◌, ◌||◌}
 use Prim.Native.Nat.{ℕ, ◌-◌, ◌<◌}
-use native.Mathlib.Nat.{le_of_suc-le-suc}
 use lib.Bits.{bit_and, bit_or}
 use lib.Dec.{ltb, lit<}
-use borrow.Author.Tests.{le-ltb}
 use Rattle.bits.specs.Byte.{bit, without_bit, is_waiting}
 use Rattle.bits.proofs.Byte.{bit-or, bit-waiting}
 use Rattle.order.specs.Order.{channel_at, first_in, first_channel}
