@@ -1,7 +1,6 @@
 -- The C calls over a chain image, and that for the sentence of a number: the number that each hands back, and what the lent buffers hold afterwards.
 -- A call is the model's call between reading the image and writing it. A refused call leaves every buffer as it was.
-use Rattle.std.specs.Prelude.{Ok, Err}
-use Rattle.std.specs.Prelude.{cond, List, [], ◌∷◌, ℕ, ◌/◌, ◌%◌, eqb, ltb, length}
+use Rattle.std.specs.Prelude.{Ok, Err, cond, List, [], ◌∷◌, ℕ, ◌/◌, ◌%◌, eqb, ltb, length}
 use Rattle.refusal.specs.Answers.{verdict_in}
 use Rattle.refusal.specs.Numbers.{verdict_number, is_accepted}
 use Rattle.refusal.specs.Sentences.{meaning_of}

@@ -12,7 +12,10 @@ use crate::shown::{chain_of, picture_bytes, put_view, table_bytes};
 use chain::Chain;
 use image::writing::put_chain;
 use refusal::sentences::{meaning_length, put_meaning};
+use refusal::answers::verdict_in;
+use refusal::{Refusal, is_accepted, verdict_number};
 use run::on_image::run_in;
+use search::{candidate_number, candidate_of};
 use views::{pin_view, register_view};
 
 // The candidate search over register numbers: the channel, 255 for no candidate, or 254 if the pointer is above 7.
@@ -22,7 +25,7 @@ pub fn am9519a_candidate(irr: u8, imr: u8, isr: u8, mode: u8, pointer: u8) -> u8
     if pointer > 7 {
         return 254;
     }
-    search::candidate_of(irr, imr, isr, mode, pointer).number()
+    candidate_number(candidate_of(irr, imr, isr, mode, pointer))
 }
 
 // The chain at the start, into an image.
@@ -31,13 +34,12 @@ pub fn am9519a_start(count: u8, fill: u8, image: &mut [u8]) -> u8
     ensures image_after { image.new ≡ (start_call count fill image.old).buffer }
 {
     if image.len() != image::LENGTH {
-        return 1;
+        return Refusal::NotSound.number();
     }
     let started = Chain::start(count, fill);
-    let answer = started.answer;
-    let verdict = answer.verdict();
-    if !verdict.is_accepted() {
-        return verdict.number();
+    let verdict = verdict_in(started.answer);
+    if !is_accepted(verdict) {
+        return verdict_number(verdict);
     }
     put_chain(image, started.chain);
     0
@@ -55,13 +57,12 @@ pub fn am9519a_run(
         ≡ run_call image.old events.now limit results.old accepted.old }
 {
     let verdict = run::before_any(chain_of(image), events.len(), results.len());
-    if !verdict.is_accepted() {
-        return verdict.number();
+    if !is_accepted(verdict) {
+        return verdict_number(verdict);
     }
     let reached = run_in(image, events, limit, results);
     *accepted = reached.accepted;
-    let last = reached.verdict;
-    last.number()
+    verdict_number(reached.verdict)
 }
 
 // The register view of a chip.
@@ -70,10 +71,7 @@ pub fn am9519a_registers(image: &[u8], chip: u8, view: &mut [u8]) -> u8
     ensures view_after { view.new ≡ (registers_call image.now chip view.old).buffer }
 {
     let seen = register_view(chain_of(image), chip);
-    let verdict = seen.verdict;
-    let table = seen.table;
-    let bytes = table_bytes(table);
-    put_view(view, verdict, &bytes)
+    put_view(view, seen.verdict, &table_bytes(seen.table))
 }
 
 // The pin view of a chip.
@@ -82,10 +80,7 @@ pub fn am9519a_pins(image: &[u8], chip: u8, view: &mut [u8]) -> u8
     ensures view_after { view.new ≡ (pins_call image.now chip view.old).buffer }
 {
     let seen = pin_view(chain_of(image), chip);
-    let verdict = seen.verdict;
-    let picture = seen.picture;
-    let bytes = picture_bytes(picture);
-    put_view(view, verdict, &bytes)
+    put_view(view, seen.verdict, &picture_bytes(seen.picture))
 }
 
 // What a number says to people, as far as there is room for it. Hands back how long all of it is.

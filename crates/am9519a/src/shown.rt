@@ -5,7 +5,7 @@ ghost use Rattle.am9519a.specs.Calls.{chain_of, viewed, table_bytes, picture_byt
 use chain::Chain;
 use image::reading::chain_in;
 use image::writing::put_bytes;
-use refusal::Verdict;
+use refusal::{Refusal, Verdict, is_accepted, verdict_number};
 use views::{Pins, Registers};
 
 // The chain in an image; where there is none, one that is not sound, so that both are refused by 1.
@@ -15,8 +15,7 @@ pub(crate) fn chain_of(image: &[u8]) -> Chain
     if image::is_image(image) {
         chain_in(image)
     } else {
-        let none = Chain::start(0, 0);
-        none.chain
+        Chain::start(0, 0).chain
     }
 }
 
@@ -58,11 +57,11 @@ pub(crate) fn put_view(view: &mut [u8], verdict: Verdict, bytes: &[u8]) -> u8
     ensures value { result ≡ (viewed verdict bytes.now view.old).number }
     ensures view_after { view.new ≡ (viewed verdict bytes.now view.old).buffer }
 {
-    if !verdict.is_accepted() {
-        return verdict.number();
+    if !is_accepted(verdict) {
+        return verdict_number(verdict);
     }
     if view.len() < bytes.len() {
-        return 11;
+        return Refusal::ShortResults.number();
     }
     put_bytes(view, 0, bytes);
     0

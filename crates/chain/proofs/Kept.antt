@@ -1,6 +1,6 @@
 -- Every event keeps a sound chain sound, and start gives a sound one.
 -- Assumes nothing.
-use Rattle.std.specs.Prelude.{Ok, Err}
+use Rattle.std.specs.Prelude.{Ok, Err, Option, Some, None, IfSome}
 use mathlib.Core.Bool.{Bool, true}
 use mathlib.Core.Logic.{⊎_elim}
 use mathlib.Core.Path.{◌≡◌, refl, ap, sym, subst, ◌∙◌}
@@ -27,8 +27,10 @@ use Rattle.response.specs.Held.{Response}
 use Rattle.decide.proofs.Kept.{KeepsSound, AtResponding, decided_kept}
 use Rattle.decide.specs.Look.{unless_responding}
 use Rattle.decide.specs.declared.Change.{Change}
+use Rattle.decide.specs.declared.Own.{Own}
+use Rattle.decide.specs.declared.Replaced.{Replaced}
 use Rattle.decide.specs.declared.Look.TheVariants.{Nowhere}
-use Rattle.chain.specs.Apply.{replaced_in, applied, decision, changed, counted}
+use Rattle.chain.specs.Apply.{replacing_in, replaced_in, setting_in, applied, decision, changed, counted}
 use Rattle.chain.specs.Events.{accepted, refused, judged, event_of}
 use Rattle.chain.specs.Fields.{chip_at}
 use Rattle.chain.specs.Refusals.{verdict_of}
@@ -42,34 +44,45 @@ use Rattle.chain.proofs.Rules.{chain_fields, applying}
 use Rattle.chain.proofs.Soundness.{SoundChain, parts, whole, chip_sound_lem, seen_sound_lem}
 
 -- each chip of a chain to which a change is applied is one of before, or the one that the change puts there
-pub applied_chips : (P : Chip → Type 0) (c : Change) (s : Chain) (k : ℕ) → (c.replaces ≡ true → P c.chip) → P (chip_at s k) → P (chip_at (applied c s) k)
+pub applied_chips : (P : Chip → Type 0) (c : Change) (s : Chain) (k : ℕ) → IfSome c.replaced (λ replaced. P replaced.chip) → P (chip_at s k)
+    → P (chip_at (applied c s) k)
 unfolding applying
-applied_chips P c s k new old =
-    either (λ (t : Chain). P (chip_at t k)) c.sets _ _ (λ set. replaced) (λ none. replaced)
+applied_chips P c s k new old = set c.own (replaced_in c s) (put c.replaced new)
   where
-    replaced : P (chip_at (replaced_in c s) k)
-    replaced =
-        either (λ (t : Chain). P (chip_at t k)) c.replaces _ s
-        (λ put. ⊎_elim (λ is. subst P (sym is) (new put)) (λ is. subst P (sym is) old) (stored s.chips c.at k c.chip zero_chip))
-        (λ none. old)
+    set : (own : Option Own) (t : Chain) → P (chip_at t k) → P (chip_at (setting_in own t) k)
+    set (Some own) t h = h
+    set None t h = h
+    put : (replaced : Option Replaced) → IfSome replaced (λ replaced. P replaced.chip) → P (chip_at (replacing_in replaced s) k)
+    put (Some r) new =
+        ⊎_elim (λ is. subst P (sym is) new) (λ is. subst P (sym is) old) (stored s.chips r.at k r.chip zero_chip)
+    put None new = old
 
 pub applied_count : (c : Change) (s : Chain) → (applied c s).count ≡ s.count
 unfolding applying
-applied_count c s = either (λ (t : Chain). t.count ≡ s.count) c.sets _ _ (λ set. replaced) (λ none. replaced)
+applied_count c s = set c.own (replaced_in c s) ∙ put c.replaced
   where
-    replaced : (replaced_in c s).count ≡ s.count
-    replaced = either (λ (t : Chain). t.count ≡ s.count) c.replaces _ _ (λ put. refl) (λ none. refl)
+    set : (own : Option Own) (t : Chain) → (setting_in own t).count ≡ t.count
+    set (Some own) t = refl
+    set None t = refl
+    put : (replaced : Option Replaced) → (replacing_in replaced s).count ≡ s.count
+    put (Some replaced) = refl
+    put None = refl
 
 -- its response and the level of IACK are those of before, or those that it sets
-applied_response : (c : Change) (s : Chain) → (c.sets ≡ true → response_sound s.count c.iack c.response ≡ true)
+applied_response : (c : Change) (s : Chain) → IfSome c.own (λ own. response_sound s.count own.iack own.response ≡ true)
     → response_sound s.count s.iack s.response ≡ true
     → response_sound s.count (applied c s).iack (applied c s).response ≡ true
 unfolding applying
-applied_response c s new old =
-    either (λ (t : Chain). response_sound s.count t.iack t.response ≡ true) c.sets _ _ new (λ none. replaced)
+applied_response c s new old = set c.own (replaced_in c s) new (put c.replaced)
   where
-    replaced : response_sound s.count (replaced_in c s).iack (replaced_in c s).response ≡ true
-    replaced = either (λ (t : Chain). response_sound s.count t.iack t.response ≡ true) c.replaces _ s (λ put. old) (λ none. old)
+    set : (own : Option Own) (t : Chain) → IfSome own (λ own. response_sound s.count own.iack own.response ≡ true)
+        → response_sound s.count t.iack t.response ≡ true
+        → response_sound s.count (setting_in own t).iack (setting_in own t).response ≡ true
+    set (Some own) t new old = new
+    set None t new old = old
+    put : (replaced : Option Replaced) → response_sound s.count (replacing_in replaced s).iack (replacing_in replaced s).response ≡ true
+    put (Some replaced) = old
+    put None = old
 
 -- a change that keeps what is seen sound keeps the chain sound
 applied_kept : (c : Change) (s : Chain) (at : ℕ) (ei : Bool) → KeepsSound (seen_at at ei s) c → sound s ≡ true → sound (applied c s) ≡ true

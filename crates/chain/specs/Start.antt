@@ -1,6 +1,5 @@
 -- Start (the rules paper, "A chip"): a chip count and a fill byte.
-use Rattle.std.specs.Prelude.{None, Ok, Err}
-use Rattle.std.specs.Prelude.{true, cond, ℕ, replicate}
+use Rattle.std.specs.Prelude.{None, Ok, Err, true, cond, ℕ, replicate}
 use Rattle.chip.specs.Reset.{power_up}
 use Rattle.refusal.specs.declared.Refusal.TheVariants.{NotSound}
 use Rattle.chain.specs.Fields.{zero_chain}

@@ -20,42 +20,41 @@ impl Chain {
     }
 
     // The chain's own fields, and a chip with its number and its Enable In.
+    #[tactic(auto, unfolding(crate::specs::Seen::seen_at))]
     fn seen_at(self, at: u8, ei: bool) -> Seen
         ensures { result ≡ seen_at at ei self }
     {
-        let response = self.response;
-        let chip = self.chip_at(at);
         Seen {
             count: self.count,
             enable: self.enable,
             iack: self.iack,
-            response: response,
-            at: at,
-            chip: chip,
-            ei: ei,
+            response: self.response,
+            at,
+            chip: self.chip_at(at),
+            ei,
         }
     }
 
     // The chip that is replaced, if one is.
+    #[tactic(auto, unfolding(crate::specs::Apply::replaced_in))]
     fn replaced(self, change: Change) -> Chain
         ensures { result ≡ replaced_in change self }
     {
-        if !change.replaces {
-            return self;
+        match change.replaced {
+            None => self,
+            Some(replaced) => self.with_chip(replaced.at, replaced.chip),
         }
-        let chip = change.chip;
-        self.with_chip(change.at, chip)
     }
 
     // The chain's own fields, if they are set.
+    #[tactic(auto, unfolding(crate::specs::Apply::set_in))]
     fn set(self, change: Change) -> Chain
         ensures { result ≡ set_in change self }
     {
-        if !change.sets {
-            return self;
+        match change.own {
+            None => self,
+            Some(own) => self.with_own(own.enable, own.iack, own.response),
         }
-        let response = change.response;
-        self.with_own(change.enable, change.iack, response)
     }
 
     // What is decided.

@@ -8,7 +8,7 @@ use crate::{Chain, Outcome};
 use decide::Look;
 use decide::tests::verdict;
 use event::Event;
-use refusal::{Refusal, Verdict};
+use refusal::Refusal;
 
 impl Chain {
     // A command write.
@@ -82,12 +82,10 @@ impl Chain {
         requires { sound self ≡ true }
         ensures { result ≡ event_of e self }
     {
-        let response = self.response;
-        let seen = self.seen(Look::of(e, response));
-        let judged = verdict(e, seen);
-        match judged {
-            Verdict::Accepted => self.accepted(seen.change(e)),
-            Verdict::Refused(why) => self.refused(why),
+        let seen = self.seen(Look::of(e, self.response));
+        match verdict(e, seen) {
+            Ok(()) => self.accepted(seen.change(e)),
+            Err(why) => self.refused(why),
         }
     }
 }

@@ -8,34 +8,34 @@ use crate::{Chain, Outcome};
 use chip::Chip;
 use decide::Change;
 use event::next_number;
-use refusal::{Answer, Refusal};
+use refusal::Refusal;
 use response::Response;
 
 impl Chain {
     // The chain of a refused start: count 0, all zero, without destination or response.
+    #[tactic(auto, unfolding(crate::specs::Fields::zero_chain))]
     pub(crate) fn zero() -> Chain
         ensures { result ≡ zero_chain }
     {
-        let chip = Chip::zero();
         Chain {
             count: 0,
-            chips: [chip; 8],
+            chips: [Chip::zero(); 8],
             enable: false,
             iack: false,
-            response: Response::Idle,
+            response: None,
             event: 0,
         }
     }
 
     // Chip i; past the eight records, a chip that is all zero.
+    #[tactic(auto, unfolding(crate::specs::Fields::chip_at))]
     pub fn chip_at(self, i: u8) -> Chip
         ensures { result ≡ chip_at self i }
     {
-        let n = i as usize;
-        if n >= 8 {
-            return Chip::zero();
+        match self.chips.get(i as usize) {
+            None => Chip::zero(),
+            Some(chip) => *chip,
         }
-        self.chips[n]
     }
 
     // The chain with chip i replaced; past the eight records nothing is.
@@ -50,19 +50,14 @@ impl Chain {
         self
     }
 
-    // The chain with its own fields set: Enable In, IACK and the response. (The record is written anew.)
-    pub(crate) fn with_own(self, enable: bool, iack: bool, response: Response) -> Chain
+    // The chain with its own fields set: Enable In, IACK and the response.
+    pub(crate) fn with_own(mut self, enable: bool, iack: bool, response: Response) -> Chain
         ensures { result ≡ with_own enable iack response self }
     {
-        let chips = self.chips;
-        Chain {
-            count: self.count,
-            chips: chips,
-            enable: enable,
-            iack: iack,
-            response: response,
-            event: self.event,
-        }
+        self.enable = enable;
+        self.iack = iack;
+        self.response = response;
+        self
     }
 
     // The chain with one more accepted event counted.
@@ -74,14 +69,13 @@ impl Chain {
     }
 
     // What an accepted event hands back: its answer, and the chain with what it does applied and counted.
+    #[tactic(auto, unfolding(crate::specs::Events::accepted))]
     pub(crate) fn accepted(self, change: Change) -> Outcome
         ensures { result ≡ accepted change self }
     {
-        let answer = change.answer;
-        let chain = self.applied(change).counted();
         Outcome {
-            answer: answer,
-            chain: chain,
+            answer: change.answer,
+            chain: self.applied(change).counted(),
         }
     }
 
@@ -90,7 +84,7 @@ impl Chain {
         ensures { result ≡ refused why self }
     {
         Outcome {
-            answer: Answer::Refused(why),
+            answer: Err(why),
             chain: self,
         }
     }

@@ -5,16 +5,17 @@ ghost use Rattle.chain.specs.Walk.{answering_chip, walked_to};
 
 use crate::Chain;
 use response::Walk;
+use response::along::eo_of;
+use response::held::is_idle;
 
 impl Chain {
     // The walk along the chain up to a chip.
     fn walked(self, to: u8) -> Walk
         ensures { result ≡ walked_to self to }
     {
-        let response = self.response;
         let mut walk = Walk::at_first(self.enable);
-        for i in 0u8..to {
-            walk = walk.past(self.chip_at(i), response);
+        for i in 0..to {
+            walk = walk.past(self.chip_at(i), self.response);
         }
         walk
     }
@@ -37,23 +38,20 @@ impl Chain {
     pub fn eo_at(self, ei: bool, i: u8) -> bool
         ensures { result ≡ eo_at ei self i }
     {
-        let response = self.response;
-        response.eo_of(ei, self.chip_at(i), i)
+        eo_of(ei, self.chip_at(i), self.response, i)
     }
 
     // RIP is low while a response is under way.
     pub fn rip(self) -> bool
         ensures { result ≡ rip self }
     {
-        let response = self.response;
-        response.is_idle()
+        is_idle(self.response)
     }
 
     // PAUSE is low when IACK is low and no response is under way.
     pub fn pause(self) -> bool
         ensures { result ≡ pause self }
     {
-        let response = self.response;
-        self.iack | !response.is_idle()
+        self.iack | !is_idle(self.response)
     }
 }

@@ -13,24 +13,20 @@ pub(crate) fn is_count(count: u8) -> bool
 
 impl Chain {
     // Whether the chain is sound: count 1 to 8, each chip in the count, and the response.
+    #[tactic(auto, unfolding(crate::specs::Sound::sound))]
     pub fn is_sound(self) -> bool
         ensures { result ≡ sound self }
     {
-        if !is_count(self.count) {
-            return false;
-        }
-        let response = self.response;
-        self.has_sound_chips() & response.is_sound(self.count, self.iack)
+        is_count(self.count)
+            && self.has_sound_chips() & response::sound::is_sound(self.response, self.count, self.iack)
     }
 
     // Each chip in the count.
     fn has_sound_chips(self) -> bool
         ensures { result ≡ chips_sound self }
     {
-        let count = self.count;
-        for i in 0u8..count {
-            let chip = self.chip_at(i);
-            if !chip.is_sound() {
+        for i in 0..self.count {
+            if !self.chip_at(i).is_sound() {
                 return false;
             }
         }

@@ -5,8 +5,7 @@ ghost use Rattle.chain.specs.Start.{started, start_of};
 use crate::sound::is_count;
 use crate::{Chain, Outcome};
 use chip::Chip;
-use refusal::{Answer, Refusal};
-use response::Response;
+use refusal::Refusal;
 
 impl Chain {
     // The chain at the start, or the all-zero chain and refusal 1 where the count is outside 1 to 8.
@@ -15,28 +14,28 @@ impl Chain {
     {
         if is_count(count) {
             Outcome {
-                answer: Answer::Done,
+                answer: Ok(None),
                 chain: Chain::started(count, fill),
             }
         } else {
             Outcome {
-                answer: Answer::Refused(Refusal::NotSound),
+                answer: Err(Refusal::NotSound),
                 chain: Chain::zero(),
             }
         }
     }
 
     // All eight records are the power-up chip; EI and IACK high, event number 0, no response.
+    #[tactic(auto, unfolding(crate::specs::Start::started))]
     fn started(count: u8, fill: u8) -> Chain
         ensures { result ≡ started count fill }
     {
-        let chip = Chip::power_up(fill);
         Chain {
-            count: count,
-            chips: [chip; 8],
+            count,
+            chips: [Chip::power_up(fill); 8],
             enable: true,
             iack: true,
-            response: Response::Idle,
+            response: None,
             event: 0,
         }
     }

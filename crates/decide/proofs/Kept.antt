@@ -1,11 +1,10 @@
 -- What is decided keeps what is seen sound: the chip that it puts in a chip's place, and the response with the level of IACK.
 -- Assumes nothing.
-use Rattle.std.specs.Prelude.{Some, None, Ok, Err}
+use Rattle.std.specs.Prelude.{Some, None, IfSome, Ok, Err}
 use mathlib.Core.Bool.{Bool, true, false}
 use mathlib.Core.Path.{◌≡◌, refl, ap, sym, subst, ◌∙◌}
 use Prim.Native.Nat.{ℕ, ◌≤◌, ◌<◌}
 use lib.Dec.{eqb}
-use Rattle.refusal.proofs.Numbers.{not_both}
 use Rattle.event.specs.declared.Event.{Event}
 use Rattle.event.specs.declared.Event.TheVariants.{Command, Data, Status, Read, Line, Enable, Fall, Rise}
 use Rattle.figure4.proofs.Figure4.{row_fits_lem}
@@ -33,8 +32,8 @@ use Rattle.decide.proofs.Soundness.{seen_chip, seen_response, under_way, under_w
 
 -- a change that leaves what is seen sound
 pub record KeepsSound (v : Seen) (c : Change) : Type 0 where
-  pub chip : c.replaces ≡ true → chip_sound c.chip ≡ true
-  pub response : c.sets ≡ true → response_sound v.count c.iack c.response ≡ true
+  pub chip : IfSome c.replaced (λ replaced. chip_sound replaced.chip ≡ true)
+  pub response : IfSome c.own (λ own. response_sound v.count own.iack own.response ≡ true)
 
 commanded_chip : (meaning : Meaning) (code : ℕ) (c : Chip) → figure4 code ≡ meaning → chip_sound c ≡ true → chip_sound (commanded meaning code c) ≡ true
 unfolding commanded
@@ -47,30 +46,30 @@ next r none one = rw none one
 
 first_kept : (found : Response) (v : Seen) → selected_by v ≡ found → seen_sound v ≡ true → KeepsSound v (first_pulse found v)
 unfolding changes driving first_pulse
-first_kept None v is e = record { chip = λ h. not_both h; response = λ h. refl }
+first_kept None v is e = record { chip = tt; response = refl }
 first_kept (Some r) v is e =
     let p = selected-sound v r e is in
     record {
-      chip = λ h. answered_kept r.channel v.chip p.0.channel (seen_chip v e (selected_is v r is).0);
-      response = λ h. one_more_lem v.count r p.0 (next r p.1 p.0.at_least_one);
+      chip = answered_kept r.channel v.chip p.0.channel (seen_chip v e (selected_is v r is).0);
+      response = one_more_lem v.count r p.0 (next r p.1 p.0.at_least_one);
     }
 
 fall_kept : (response : Response) (v : Seen) → v.response ≡ response → v.iack ≡ true → seen_sound v ≡ true → KeepsSound v (fallen response v)
 unfolding changes driving fallen
 fall_kept None v is high e = first_kept (selected_by v) v refl e
 fall_kept (Some r) v is high e =
-    record { chip = λ h. not_both h; response = λ h. one_more_lem v.count r (under_way_parts v r e is) (next_left v r e high is) }
+    record { chip = tt; response = one_more_lem v.count r (under_way_parts v r e is) (next_left v r e high is) }
 
 -- the end of a pulse: after the last byte the response ends, otherwise a byte is left
 after_kept : (last : Bool) (r : Reply) (v : Seen) → eqb r.delivered r.length ≡ last → v.response ≡ Some r → v.iack ≡ false → v.at < v.count
     → seen_sound v ≡ true
     → KeepsSound v (risen_after last r v)
 unfolding changes risen_after
-after_kept true r v at is low h e = record { chip = λ put. finished_kept r.channel v.chip (seen_chip v e h); response = λ put. refl }
+after_kept true r v at is low h e = record { chip = finished_kept r.channel v.chip (seen_chip v e h); response = refl }
 after_kept false r v at is low h e =
     record {
-      chip = λ put. not_both put;
-      response = λ put.
+      chip = tt;
+      response =
           reply_whole v.count true r (under_way_parts v r e is)
           (still_left r at (ap (λ (iack : Bool). delivered_sound iack r) (sym low) ∙ reply_delivered v.count v.iack r (under_way v r e is)));
     }
@@ -78,15 +77,15 @@ after_kept false r v at is low h e =
 rise_kept : (response : Response) (v : Seen) → v.response ≡ response → v.iack ≡ false → ((r : Reply) → response ≡ Some r → v.at ≡ r.chip) → seen_sound v ≡ true
     → KeepsSound v (risen response v)
 unfolding changes risen
-rise_kept None v is low at e = record { chip = λ h. not_both h; response = λ h. refl }
+rise_kept None v is low at e = record { chip = tt; response = refl }
 rise_kept (Some r) v is low at e =
     after_kept (eqb r.delivered r.length) r v refl is low (subst (λ (n : ℕ). n < v.count) (sym (at r refl)) (under_way_parts v r e is).chip) e
 
 -- a command keeps its chip sound, and a response that it ends is none
 ending_kept : (ends : Bool) (v : Seen) (c : Chip) → chip_sound c ≡ true → KeepsSound v (ending ends v (replacing v.at c nothing))
 unfolding changes
-ending_kept true v c e = record { chip = λ h. e; response = λ h. refl }
-ending_kept false v c e = record { chip = λ h. e; response = λ h. not_both h }
+ending_kept true v c e = record { chip = e; response = refl }
+ending_kept false v c e = record { chip = e; response = tt }
 
 -- what is seen of the chip that responds
 abbrev pub AtResponding : Seen → Type 0
@@ -99,16 +98,16 @@ decided_kept (Command i code) v ok here at =
     (commanded_chip (figure4 code) code v.chip refl (seen_chip v here (passed_names (Command i code) v refl ok)))
 decided_kept (Data i byte) v ok here at =
     record {
-      chip = λ h. written_kept byte v.chip (passed_data i byte v ok) (seen_chip v here (passed_names (Data i byte) v refl ok));
-      response = λ h. not_both h;
+      chip = written_kept byte v.chip (passed_data i byte v ok) (seen_chip v here (passed_names (Data i byte) v refl ok));
+      response = tt;
     }
-decided_kept (Status i) v ok here at = record { chip = λ h. not_both h; response = λ h. not_both h }
-decided_kept (Read i) v ok here at = record { chip = λ h. not_both h; response = λ h. not_both h }
+decided_kept (Status i) v ok here at = record { chip = tt; response = tt }
+decided_kept (Read i) v ok here at = record { chip = tt; response = tt }
 decided_kept (Line i channel level) v ok here at =
     record {
-      chip = λ h. line_kept channel (eqb level 1) v.chip (seen_chip v here (passed_names (Line i channel level) v refl ok));
-      response = λ h. not_both h;
+      chip = line_kept channel (eqb level 1) v.chip (seen_chip v here (passed_names (Line i channel level) v refl ok));
+      response = tt;
     }
-decided_kept (Enable level) v ok here at = record { chip = λ h. not_both h; response = λ h. seen_response v here }
+decided_kept (Enable level) v ok here at = record { chip = tt; response = seen_response v here }
 decided_kept Fall v ok here at = fall_kept v.response v refl (passed_fall v ok) here
 decided_kept Rise v ok here at = rise_kept v.response v refl (passed_rise v ok) (at refl) here

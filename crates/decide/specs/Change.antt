@@ -1,28 +1,22 @@
--- What an event does, put together: it may answer with a byte, replace a chip, set the chain's own fields. antt has no record update, so the whole record is spelt
--- out in this file, and in no other.
-use Rattle.std.specs.Prelude.{None, Ok}
-use Rattle.std.specs.Prelude.{Bool, true, false, ℕ}
+-- What an event does, put together: it may answer with a byte, replace a chip, set the chain's own fields.
+use Rattle.std.specs.Prelude.{Bool, Some, None, Ok, ℕ}
 use Rattle.refusal.specs.Numbers.{Answer}
-use Rattle.chip.specs.Fields.{zero_chip}
 use Rattle.chip.specs.declared.Chip.{Chip}
 use Rattle.response.specs.Held.{Response}
 use Rattle.decide.specs.declared.Change.{Change}
 
--- nothing changes, and no byte is driven or read. (Where no chip is replaced it does not matter which one stands here, and so with the chain's fields.)
+-- nothing changes, and no byte is driven or read
 unfoldable pub nothing : Change
-nothing =
-    record { answer = Ok None; replaces = false; at = 0; chip = zero_chip; sets = false; enable = false; iack = false; response = None }
+nothing = record { answer = Ok None; replaced = None; own = None }
 
 unfoldable pub answering : Answer → Change → Change
-answering new c =
-    record { answer = new; replaces = c.replaces; at = c.at; chip = c.chip; sets = c.sets; enable = c.enable; iack = c.iack; response = c.response }
+answering new c = record { answer = new; replaced = c.replaced; own = c.own }
 
 -- chip i is replaced
 unfoldable pub replacing : ℕ → Chip → Change → Change
-replacing i new c =
-    record { answer = c.answer; replaces = true; at = i; chip = new; sets = c.sets; enable = c.enable; iack = c.iack; response = c.response }
+replacing i new c = record { answer = c.answer; replaced = Some (record { at = i; chip = new }); own = c.own }
 
 -- the chain's own fields are set: Enable In, IACK and the response
 unfoldable pub setting : Bool → Bool → Response → Change → Change
 setting enable iack response c =
-    record { answer = c.answer; replaces = c.replaces; at = c.at; chip = c.chip; sets = true; enable = enable; iack = iack; response = response }
+    record { answer = c.answer; replaced = c.replaced; own = Some (record { enable = enable; iack = iack; response = response }) }

@@ -1,6 +1,5 @@
 -- What an accepted event does (the rules paper, "The eight events"): what it answers, and what it changes.
-use Rattle.std.specs.Prelude.{Some, None, Ok}
-use Rattle.std.specs.Prelude.{Bool, cond, eqb}
+use Rattle.std.specs.Prelude.{Some, None, Ok, Bool, cond, eqb}
 use Rattle.event.specs.declared.Event.{Event}
 use Rattle.event.specs.declared.Event.TheVariants.{Command, Data, Status, Read, Line, Enable, Fall, Rise}
 use Rattle.chip.specs.Command.{commanded}

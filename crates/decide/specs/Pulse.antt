@@ -1,6 +1,5 @@
 -- The acknowledge pulse (the rules paper, events 7 and 8).
-use Rattle.std.specs.Prelude.{Some, None, Ok}
-use Rattle.std.specs.Prelude.{Bool, true, false, cond, eqb, ltb}
+use Rattle.std.specs.Prelude.{Some, None, Ok, Bool, true, false, cond, eqb, ltb}
 use Rattle.chip.specs.Acknowledge.{answered, response_byte, finished}
 use Rattle.response.specs.Held.{reply_of, one_more}
 use Rattle.response.specs.declared.Reply.{Reply}

@@ -37,15 +37,25 @@ pub struct Seen {
     pub ei: bool,
 }
 
-// What an accepted event does: its answer; the chip that it replaces, if it replaces one, and by what; and the chain's own fields, if it sets them.
+// A chip that is replaced: its number, and by what.
 #[derive(Clone, Copy)]
-pub struct Change {
-    pub answer: Answer,
-    pub replaces: bool,
+pub struct Replaced {
     pub at: u8,
     pub chip: Chip,
-    pub sets: bool,
+}
+
+// The chain's own fields.
+#[derive(Clone, Copy)]
+pub struct Own {
     pub enable: bool,
     pub iack: bool,
     pub response: Response,
+}
+
+// What an accepted event does: its answer; the chip that it replaces, if it replaces one; and the chain's own fields, if it sets them.
+#[derive(Clone, Copy)]
+pub struct Change {
+    pub answer: Answer,
+    pub replaced: Option<Replaced>,
+    pub own: Option<Own>,
 }

@@ -12,11 +12,10 @@ impl Look {
         ensures { result ≡ look_of e response }
     {
         match e {
-            Event::Command(i, _) => Look::At(i),
-            Event::Data(i, _) => Look::At(i),
+            Event::Command(i, _) | Event::Data(i, _) | Event::Read(i) | Event::Line(i, _, _) => {
+                Look::At(i)
+            }
             Event::Status(i) => Look::AtEi(i),
-            Event::Read(i) => Look::At(i),
-            Event::Line(i, _, _) => Look::At(i),
             Event::Enable(_) => Look::Nowhere,
             Event::Fall => Look::Answering.unless_responding(response),
             Event::Rise => Look::Nowhere.unless_responding(response),
@@ -28,8 +27,8 @@ impl Look {
         ensures { result ≡ unless_responding self response }
     {
         match response {
-            Response::Idle => self,
-            Response::UnderWay(reply) => Look::At(reply.chip),
+            None => self,
+            Some(reply) => Look::At(reply.chip),
         }
     }
 }

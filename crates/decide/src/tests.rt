@@ -6,7 +6,7 @@ ghost use Rattle.decide.specs.Refusals.{no_such_chip, no_such_channel, no_such_l
 use crate::Seen;
 use chip::Chip;
 use event::Event;
-use figure4::Meaning;
+use figure4::{Command, is_undefined};
 use refusal::{Refusal, Verdict};
 
 // The verdict on an event.
@@ -15,12 +15,8 @@ pub fn verdict(e: Event, seen: Seen) -> Verdict
 {
     match e {
         Event::Command(_, code) => command_verdict(seen.count, seen.at, seen.iack, code),
-        Event::Data(_, _) => {
-            let chip = seen.chip;
-            data_verdict(seen.count, seen.at, seen.iack, chip)
-        }
-        Event::Status(_) => bus_verdict(seen.count, seen.at, seen.iack),
-        Event::Read(_) => bus_verdict(seen.count, seen.at, seen.iack),
+        Event::Data(_, _) => data_verdict(seen.count, seen.at, seen.iack, seen.chip),
+        Event::Status(_) | Event::Read(_) => bus_verdict(seen.count, seen.at, seen.iack),
         Event::Line(_, channel, level) => line_verdict(seen.count, seen.at, channel, level),
         Event::Enable(level) => level_verdict(level),
         Event::Fall => fall_verdict(seen.iack),
@@ -28,72 +24,54 @@ pub fn verdict(e: Event, seen: Seen) -> Verdict
     }
 }
 
+// Refused where a test applies.
+fn refused_if(applies: bool, why: Refusal) -> Verdict
+    ensures { result ≡ first_of_list ((applies, why) ∷ []) }
+{
+    if applies { Err(why) } else { Ok(()) }
+}
+
 // Whatever names a chip: chip not below the count.
 pub fn chip_verdict(count: u8, i: u8) -> Verdict
     ensures { result ≡ first_of_list (no_such_chip count i ∷ []) }
 {
-    if i >= count {
-        return Verdict::Refused(Refusal::NoSuchChip);
-    }
-    Verdict::Accepted
+    refused_if(i >= count, Refusal::NoSuchChip)
 }
 
 // Every access on the bus, and the whole verdict on a read: chip not below the count; IACK low.
 pub fn bus_verdict(count: u8, i: u8, iack: bool) -> Verdict
     ensures { result ≡ first_of_list (no_such_chip count i ∷ pulse_under_way iack ∷ []) }
 {
-    let named = chip_verdict(count, i);
-    if !named.is_accepted() {
-        return named;
-    }
-    if !iack {
-        return Verdict::Refused(Refusal::PulseUnderWay);
-    }
-    Verdict::Accepted
+    chip_verdict(count, i)?;
+    refused_if(!iack, Refusal::PulseUnderWay)
 }
 
 // A command write.
 pub fn command_verdict(count: u8, i: u8, iack: bool, code: u8) -> Verdict
     ensures { result ≡ first_of_list (no_such_chip count i ∷ pulse_under_way iack ∷ undefined_command code ∷ []) }
 {
-    let bus = bus_verdict(count, i, iack);
-    if !bus.is_accepted() {
-        return bus;
-    }
-    if Meaning::of(code).is_undefined() {
-        return Verdict::Refused(Refusal::UndefinedCommand);
-    }
-    Verdict::Accepted
+    bus_verdict(count, i, iack)?;
+    refused_if(
+        is_undefined(Command::try_from(code)),
+        Refusal::UndefinedCommand,
+    )
 }
 
 // A data write.
 pub fn data_verdict(count: u8, i: u8, iack: bool, chip: Chip) -> Verdict
     ensures { result ≡ first_of_list (no_such_chip count i ∷ pulse_under_way iack ∷ no_destination chip ∷ past_its_count chip ∷ []) }
 {
-    let bus = bus_verdict(count, i, iack);
-    if !bus.is_accepted() {
-        return bus;
-    }
-    if chip.has_no_destination() {
-        return Verdict::Refused(Refusal::NoDestination);
-    }
-    if chip.is_past_its_count() {
-        return Verdict::Refused(Refusal::PastItsCount);
-    }
-    Verdict::Accepted
+    bus_verdict(count, i, iack)?;
+    refused_if(chip.has_no_destination(), Refusal::NoDestination)?;
+    refused_if(chip.is_past_its_count(), Refusal::PastItsCount)
 }
 
 // A line takes a level.
 pub fn line_verdict(count: u8, i: u8, channel: u8, level: u8) -> Verdict
     ensures { result ≡ first_of_list (no_such_chip count i ∷ no_such_channel channel ∷ no_such_level level ∷ []) }
 {
-    let named = chip_verdict(count, i);
-    if !named.is_accepted() {
-        return named;
-    }
-    if channel > 7 {
-        return Verdict::Refused(Refusal::NoSuchChannel);
-    }
+    chip_verdict(count, i)?;
+    refused_if(channel > 7, Refusal::NoSuchChannel)?;
     level_verdict(level)
 }
 
@@ -101,28 +79,19 @@ pub fn line_verdict(count: u8, i: u8, channel: u8, level: u8) -> Verdict
 pub fn level_verdict(level: u8) -> Verdict
     ensures { result ≡ first_of_list (no_such_level level ∷ []) }
 {
-    if level > 1 {
-        return Verdict::Refused(Refusal::NoSuchLevel);
-    }
-    Verdict::Accepted
+    refused_if(level > 1, Refusal::NoSuchLevel)
 }
 
 // IACK falls: it is low already.
 pub fn fall_verdict(iack: bool) -> Verdict
     ensures { result ≡ first_of_list (iack_there_already (not iack) ∷ []) }
 {
-    if !iack {
-        return Verdict::Refused(Refusal::IackThereAlready);
-    }
-    Verdict::Accepted
+    refused_if(!iack, Refusal::IackThereAlready)
 }
 
 // IACK rises: it is high already.
 pub fn rise_verdict(iack: bool) -> Verdict
     ensures { result ≡ first_of_list (iack_there_already iack ∷ []) }
 {
-    if iack {
-        return Verdict::Refused(Refusal::IackThereAlready);
-    }
-    Verdict::Accepted
+    refused_if(iack, Refusal::IackThereAlready)
 }

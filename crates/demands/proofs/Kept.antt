@@ -1,6 +1,7 @@
 -- What the events keep, proved: what a change leaves of a chain, once, and by the event only which chip it may replace.
 -- Assumes nothing.
-use Rattle.std.specs.Prelude.{Some, None, Ok, Err}
+use Rattle.std.proofs.lemmas.Option.{IfSome_then}
+use Rattle.std.specs.Prelude.{Some, None, Ok, Err, Option, IfSome}
 use mathlib.Core.Bool.{Bool, true, false, ◌&&◌}
 use mathlib.Core.List.{List, [], ◌∷◌}
 use mathlib.Core.Logic.{⊎_elim}
@@ -33,13 +34,15 @@ use Rattle.decide.proofs.Soundness.{selected_is}
 use Rattle.decide.specs.Look.{unless_responding}
 use Rattle.decide.specs.Pulse.{selected_by}
 use Rattle.decide.specs.declared.Change.{Change}
+use Rattle.decide.specs.declared.Own.{Own}
+use Rattle.decide.specs.declared.Replaced.{Replaced}
 use Rattle.decide.specs.declared.Look.TheVariants.{Nowhere, Answering}
 use Rattle.chain.proofs.Kept as kept
 use Rattle.chain.proofs.Number.{applied_number}
 use Rattle.chain.proofs.Passed.{passed_sound, passed_tests}
 use Rattle.chain.proofs.Rules.{chain_fields, applying}
 use Rattle.chain.proofs.Soundness.{under_way_parts, selected-sound}
-use Rattle.chain.specs.Apply.{replaced_in, applied, decision, answer_of, counted}
+use Rattle.chain.specs.Apply.{replacing_in, replaced_in, setting_in, applied, decision, answer_of, counted}
 use Rattle.chain.specs.Events.{accepted, refused, judged, event_of}
 use Rattle.chain.specs.Fields.{chip_at}
 use Rattle.chain.specs.Refusals.{verdict_of}
@@ -51,25 +54,33 @@ use Rattle.demands.specs.Kept.{Kept, replaces}
 use Rattle.demands.proofs.Puts.{puts}
 
 -- a chip of a chain to which a change is applied: the one that the change puts in this place, or the one of before
-pub applied_there : (P : Chip → Type 0) (c : Change) (s : Chain) (k : ℕ) → (c.replaces ≡ true → c.at ≡ k → P c.chip) → P (chip_at s k) → P (chip_at (applied c s) k)
+pub applied_there : (P : Chip → Type 0) (c : Change) (s : Chain) (k : ℕ) → IfSome c.replaced (λ replaced. replaced.at ≡ k → P replaced.chip) → P (chip_at s k)
+    → P (chip_at (applied c s) k)
 unfolding applying
-applied_there P c s k new old = either (λ (t : Chain). P (chip_at t k)) c.sets _ _ (λ set. replaced) (λ none. replaced)
+applied_there P c s k new old = set c.own (replaced_in c s) (put c.replaced new)
   where
-    put : (here : Bool) → eqb c.at k ≡ here → c.replaces ≡ true → P (get_or (set s.chips c.at c.chip) k zero_chip)
-    put true here puts =
-        ⊎_elim (λ is. subst P (sym is) (new puts (eqb-true c.at k here))) (λ is. subst P (sym is) old) (stored s.chips c.at k c.chip zero_chip)
-    put false elsewhere puts =
-        subst P (sym (get_or-set_other s.chips c.at k c.chip zero_chip (λ is. eqb-false c.at k elsewhere (sym is)))) old
-
-    replaced : P (chip_at (replaced_in c s) k)
-    replaced = either (λ (t : Chain). P (chip_at t k)) c.replaces _ s (put (eqb c.at k) refl) (λ none. old)
+    there : (r : Replaced) (here : Bool) → eqb r.at k ≡ here → (r.at ≡ k → P r.chip) → P (get_or (set s.chips r.at r.chip) k zero_chip)
+    there r true here new =
+        ⊎_elim (λ is. subst P (sym is) (new (eqb-true r.at k here))) (λ is. subst P (sym is) old) (stored s.chips r.at k r.chip zero_chip)
+    there r false elsewhere new =
+        subst P (sym (get_or-set_other s.chips r.at k r.chip zero_chip (λ is. eqb-false r.at k elsewhere (sym is)))) old
+    put : (replaced : Option Replaced) → IfSome replaced (λ replaced. replaced.at ≡ k → P replaced.chip) → P (chip_at (replacing_in replaced s) k)
+    put (Some r) new = there r (eqb r.at k) refl new
+    put None new = old
+    set : (own : Option Own) (t : Chain) → P (chip_at t k) → P (chip_at (setting_in own t) k)
+    set (Some own) t here = here
+    set None t here = here
 
 pub applied_records : (c : Change) (s : Chain) → length (applied c s).chips ≡ length s.chips
 unfolding applying
-applied_records c s = either (λ (t : Chain). length t.chips ≡ length s.chips) c.sets _ _ (λ set. replaced) (λ none. replaced)
+applied_records c s = set c.own (replaced_in c s) ∙ put c.replaced
   where
-    replaced : length (replaced_in c s).chips ≡ length s.chips
-    replaced = either (λ (t : Chain). length t.chips ≡ length s.chips) c.replaces _ s (λ put. length-set s.chips c.at c.chip) (λ none. refl)
+    put : (replaced : Option Replaced) → length (replacing_in replaced s).chips ≡ length s.chips
+    put (Some r) = length-set s.chips r.at r.chip
+    put None = refl
+    set : (own : Option Own) (t : Chain) → length (setting_in own t).chips ≡ length t.chips
+    set (Some own) t = refl
+    set None t = refl
 
 -- an event replaces no chip but the one that it may replace
 pub first_there : (s : Chain) (r : Reply) → s.response ≡ None → selected_by (seen_by Fall s) ≡ Some r → replaces Fall s (seen_by Fall s).at ≡ true
@@ -79,11 +90,11 @@ first_there s r idle found =
     ap₂ (λ (response found : Response). is_idle response && is_responding found (seen_by Fall s).at) idle is
     ∙ eq-eqb r.chip (seen_by Fall s).at (ap (λ (r : Reply). r.chip) (selected_is (seen_by Fall s) r found).1)
 
-within : (e : Event) (s : Chain) → (decision e s).replaces ≡ true → replaces e s (decision e s).at ≡ true
+within : (e : Event) (s : Chain) → IfSome (decision e s).replaced (λ replaced. replaces e s replaced.at ≡ true)
 unfolding decision seen_at
-within e s put =
-    let there : ((decision e s).at ≡ (seen_by e s).at) × (replaces e s (seen_by e s).at ≡ true) =
-    puts (λ e. seen_by e s) (λ e c. replaces e s (seen_by e s).at ≡ true)
+within e s =
+    IfSome_then (decision e s).replaced
+    (puts (λ e. seen_by e s) (λ e c. replaces e s (seen_by e s).at ≡ true)
     (record {
       command = λ i code. eq-eqb i i refl;
       data_write = λ i byte. eq-eqb i i refl;
@@ -92,8 +103,8 @@ within e s put =
       last_rise = λ r under.
           ap (λ response. is_responding response (looked_at (unless_responding Nowhere response) s)) under ∙ eq-eqb r.chip r.chip refl;
     })
-    e put in
-    subst (λ (k : ℕ). replaces e s k ≡ true) (sym there.0) there.1
+    e)
+    (λ r there. subst (λ (k : ℕ). replaces e s k ≡ true) (sym there.0) there.1)
 
 -- what an event leaves is the chain of before or, where it is accepted, the chain with its change applied
 pub left : (P : Chain → Type 0) (v : Verdict) (e : Event) (s : Chain) → P s → (v ≡ Ok tt → P (counted (applied (decision e s) s))) → P (judged v e s).chain
@@ -107,7 +118,7 @@ unfolding chain_fields counted
 same v e s k other =
     left (λ t. chip_at t k ≡ chip_at s k) v e s refl
     (λ ok. applied_there (λ (c : Chip). c ≡ chip_at s k) (decision e s) s k
-    (λ put is. not_both (sym (other ok) ∙ subst (λ (k : ℕ). replaces e s k ≡ true) is (within e s put)))
+    (IfSome_then (decision e s).replaced (within e s) (λ r may is. not_both (sym (other ok) ∙ subst (λ (k : ℕ). replaces e s k ≡ true) is may)))
     refl)
 
 count : (v : Verdict) (e : Event) (s : Chain) → (judged v e s).chain.count ≡ s.count

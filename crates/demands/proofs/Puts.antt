@@ -1,7 +1,7 @@
 -- The five ways in which an event puts another chip in the place of the one that it sees: a command, a data write, a line, a first pulse that is answered, and
 -- the rise that ends a response. Whatever holds of each of them holds of every event that replaces a chip.
 -- Assumes nothing.
-use Rattle.std.specs.Prelude.{Some, None}
+use Rattle.std.specs.Prelude.{Some, None, IfSome}
 use mathlib.Core.Bool.{Bool, true, false}
 use mathlib.Core.Path.{◌≡◌, refl}
 use Prim.Native.Nat.{ℕ}
@@ -35,7 +35,7 @@ pub record Ways (by : Event → Seen) (P : Event → Chip → Type 0) : Type 0 w
 
 -- a change that replaces a chip replaces the one that is seen, by one of which this holds
 abbrev Puts : Seen → (Chip → Type 0) → Change → Type 0
-Puts v P c = c.replaces ≡ true → (c.at ≡ v.at) × P c.chip
+Puts v P c = IfSome c.replaced (λ replaced. (replaced.at ≡ v.at) × P replaced.chip)
 
 ending_puts : (ends : Bool) (v : Seen) (P : Chip → Type 0) (c : Change) → Puts v P c → Puts v P (ending ends v c)
 unfolding changes
@@ -45,38 +45,38 @@ ending_puts false v P c holds = holds
 first_puts : (found : Response) (v : Seen) (P : Chip → Type 0) → selected_by v ≡ found → ((r : Reply) → selected_by v ≡ Some r → P (answered r.channel v.chip))
     → Puts v P (first_pulse found v)
 unfolding changes driving first_pulse
-first_puts None v P is holds put = not_both put
-first_puts (Some r) v P is holds put = (refl, holds r is)
+first_puts None v P is holds = tt
+first_puts (Some r) v P is holds = (refl, holds r is)
 
 fallen_puts : (response : Response) (v : Seen) (P : Chip → Type 0) → v.response ≡ response
     → ((r : Reply) → v.response ≡ None → selected_by v ≡ Some r → P (answered r.channel v.chip))
     → Puts v P (fallen response v)
 unfolding changes driving fallen
 fallen_puts None v P is holds = first_puts (selected_by v) v P refl (λ r found. holds r is found)
-fallen_puts (Some r) v P is holds = λ put. not_both put
+fallen_puts (Some r) v P is holds = tt
 
 after_puts : (last : Bool) (r : Reply) (v : Seen) (P : Chip → Type 0) → P (finished r.channel v.chip) → Puts v P (risen_after last r v)
 unfolding changes risen_after
-after_puts true r v P holds put = (refl, holds)
-after_puts false r v P holds put = not_both put
+after_puts true r v P holds = (refl, holds)
+after_puts false r v P holds = tt
 
 risen_puts : (response : Response) (v : Seen) (P : Chip → Type 0) → v.response ≡ response
     → ((r : Reply) → v.response ≡ Some r → P (finished r.channel v.chip))
     → Puts v P (risen response v)
 unfolding changes risen
-risen_puts None v P is holds put = not_both put
-risen_puts (Some r) v P is holds put = after_puts (eqb r.delivered r.length) r v P (holds r is) put
+risen_puts None v P is holds = tt
+risen_puts (Some r) v P is holds = after_puts (eqb r.delivered r.length) r v P (holds r is)
 
 pub puts : (by : Event → Seen) (P : Event → Chip → Type 0) → Ways by P → (e : Event) → Puts (by e) (P e) (decided e (by e))
 unfolding changes decided
 puts by P w (Command i code) =
     let v : Seen = by (Command i code) in
     ending_puts (ends_response v.at code v.response) v (P (Command i code)) (replacing v.at (commanded (figure4 code) code v.chip) nothing)
-    (λ put. (refl, w.command i code))
-puts by P w (Data i byte) = λ put. (refl, w.data_write i byte)
-puts by P w (Status i) = λ put. not_both put
-puts by P w (Read i) = λ put. not_both put
-puts by P w (Line i channel level) = λ put. (refl, w.line i channel level)
-puts by P w (Enable level) = λ put. not_both put
+    (refl, w.command i code)
+puts by P w (Data i byte) = (refl, w.data_write i byte)
+puts by P w (Status i) = tt
+puts by P w (Read i) = tt
+puts by P w (Line i channel level) = (refl, w.line i channel level)
+puts by P w (Enable level) = tt
 puts by P w Fall = fallen_puts (by Fall).response (by Fall) (P Fall) refl w.first_pulse_lem
 puts by P w Rise = risen_puts (by Rise).response (by Rise) (P Rise) refl w.last_rise

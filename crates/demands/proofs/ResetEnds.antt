@@ -1,6 +1,6 @@
 -- A reset ends a wait: it disarms the chip.
 -- Assumes nothing.
-use Rattle.std.specs.Prelude.{Ok}
+use Rattle.std.specs.Prelude.{Ok, Some}
 use mathlib.Core.Bool.{Bool, true, false, ◌&&◌}
 use mathlib.Core.Path.{◌≡◌, refl, ap, ◌∙◌}
 use Prim.Native.Nat.{ℕ}
@@ -45,14 +45,16 @@ reset_done s i channel = by (is_armed (chip_at s i)) refl
     c : Change
     c = decision (Command i 0) s
 
-    put : (c.replaces ≡ true) × (c.at ≡ i) × (waits c.chip channel ≡ false)
-    put = either (λ (c : Change). (c.replaces ≡ true) × (c.at ≡ i) × (waits c.chip channel ≡ false)) (ends_response i 0 s.response) _ _
-        (λ ends. (refl, refl, reset_disarms (chip_at s i) channel))
-        (λ none. (refl, refl, reset_disarms (chip_at s i) channel))
+    new : Chip
+    new = commanded (figure4 0) 0 (chip_at s i)
+
+    put : c.replaced ≡ Some (record { at = i; chip = new })
+    put = either (λ (c : Change). c.replaced ≡ Some (record { at = i; chip = new })) (ends_response i 0 s.response) _ _ (λ ends. refl) (λ none. refl)
 
     by : (armed : Bool) → is_armed (chip_at s i) ≡ armed → waits (chip_at (applied c s) i) channel ≡ false
-    by true is = ap (λ (c : Chip). waits c channel) (put_there c s i put.0 put.1 is) ∙ put.2
-    by false is = applied_there (λ (c : Chip). waits c channel ≡ false) c s i (λ _ _. put.2) (disarmed_waits (chip_at s i) channel is)
+    by true is = ap (λ (c : Chip). waits c channel) (put_there c s i new put is) ∙ reset_disarms (chip_at s i) channel
+    by false is =
+        applied_there (λ (c : Chip). waits c channel ≡ false) c s i (rw put (λ at. reset_disarms (chip_at s i) channel)) (disarmed_waits (chip_at s i) channel is)
 
 reset_there : (s : Chain) (i channel j code : ℕ) → resets i (Command j code) s ≡ true → waits (chip_at (event_of (Command j code) s).chain i) channel ≡ false
 unfolding event_of judged accepted chain_fields counted

@@ -1,6 +1,6 @@
 -- Every call goes by the one table of numbers, proved: the tests of each call, taken in their order, are the entries of the table that can apply to it.
 -- Assumes nothing.
-use Rattle.std.specs.Prelude.{Option, Some, None, Ok}
+use Rattle.std.specs.Prelude.{Option, Some, None, Ok, Err}
 use mathlib.Core.Bool.{Bool, true, false, not}
 use mathlib.Core.List.{List, [], ◌∷◌, ◌++◌}
 use mathlib.Core.Path.{◌≡◌, refl, ap, sym, subst, ◌∙◌}

@@ -1,7 +1,8 @@
 -- One event of a wait. Every event but an answer and a reset leaves the chip's pointer; an answer for another channel brings the request nearer; and a
 -- first pulse that counts is answered by the chip.
 -- Assumes nothing.
-use Rattle.std.specs.Prelude.{Some, None, Ok}
+use Rattle.std.proofs.lemmas.Option.{IfSome_then}
+use Rattle.std.specs.Prelude.{Some, None, Ok, Option}
 use mathlib.Core.Bool.{Bool, true, false, not, ◌&&◌}
 use mathlib.Core.List.{List, [], ◌∷◌}
 use mathlib.Core.Path.{◌≡◌, refl, ap, sym, subst, ◌∙◌}
@@ -25,6 +26,7 @@ use Rattle.event.proofs.Told.{is_fall_lem}
 use Rattle.event.specs.Numbers.{is_fall}
 use Rattle.event.specs.declared.Event.{Event}
 use Rattle.event.specs.declared.Event.TheVariants.{Fall, Rise}
+use Rattle.chip.specs.Acknowledge.{answered}
 use Rattle.chip.proofs.Pointer.{answered_pointer, commanded_pointer, written_pointer, line_pointer, finished_pointer}
 use Rattle.chip.proofs.Soundness.{pointer_sound}
 use Rattle.chip.specs.Fields.{zero_chip}
@@ -40,11 +42,13 @@ use Rattle.decide.specs.Decided.{decided}
 use Rattle.decide.specs.Look.{unless_responding}
 use Rattle.decide.specs.Pulse.{driving, first_pulse, fallen}
 use Rattle.decide.specs.declared.Change.{Change}
+use Rattle.decide.specs.declared.Own.{Own}
+use Rattle.decide.specs.declared.Replaced.{Replaced}
 use Rattle.decide.specs.declared.Look.TheVariants.{Answering}
 use Rattle.chain.proofs.Acknowledge.{Answers, selected_answers, ei_high, reached_selected}
 use Rattle.chain.proofs.Rules.{chain_fields, applying}
 use Rattle.chain.proofs.Soundness.{chip_sound_lem}
-use Rattle.chain.specs.Apply.{replaced_in, applied, decision, counted}
+use Rattle.chain.specs.Apply.{replaced_in, setting_in, applied, decision, counted}
 use Rattle.chain.specs.Events.{accepted, judged, event_of}
 use Rattle.chain.specs.Fields.{chip_at}
 use Rattle.chain.specs.Refusals.{verdict_of}
@@ -121,7 +125,8 @@ unfolding event_of chain_fields counted decision
 quiet_step e s i none quiet =
     left (λ t. pointer_at t i ≡ pointer_at s i) (verdict_of e s) e s refl
     (λ ok. applied_there (λ (c : Chip). c.pointer ≡ pointer_at s i) (decision e s) s i
-    (λ put is. let there = puts (λ e. seen_by e s) (Same s i) (ways s i) e put in there.1 ok none quiet (sym there.0 ∙ is))
+    (IfSome_then (decision e s).replaced (puts (λ e. seen_by e s) (Same s i) (ways s i) e)
+    (λ r there is. there.1 ok none quiet (sym there.0 ∙ is)))
     refl)
 
 -- after a first pulse the pointer of the chip that answers is the channel
@@ -136,13 +141,14 @@ idle_is None e = refl
 idle_is (Some r) e = not_both e
 
 -- chip i with another one put there
-pub put_there : (c : Change) (s : Chain) (i : ℕ) → c.replaces ≡ true → c.at ≡ i → is_armed (chip_at s i) ≡ true → chip_at (applied c s) i ≡ c.chip
+pub put_there : (c : Change) (s : Chain) (i : ℕ) (new : Chip) → c.replaced ≡ Some (record { at = i; chip = new }) → is_armed (chip_at s i) ≡ true
+    → chip_at (applied c s) i ≡ new
 unfolding applying
-put_there c s i put is armed =
-    either (λ (t : Chain). chip_at t i ≡ c.chip) c.sets _ _ (λ set. there) (λ none. there)
+put_there c s i new put armed = set c.own (replaced_in c s) ∙ rw put (get_or-set_same s.chips i new zero_chip (in_list s.chips i armed))
   where
-    there : chip_at (replaced_in c s) i ≡ c.chip
-    there = rw put (rw is (get_or-set_same s.chips i c.chip zero_chip (in_list s.chips i armed)))
+    set : (own : Option Own) (t : Chain) → chip_at (setting_in own t) i ≡ chip_at t i
+    set (Some own) t = refl
+    set None t = refl
 
 first_pointer : (found : Response) (s : Chain) (r : Reply) → selected s ≡ found → found ≡ Some r → is_armed (chip_at s r.chip) ≡ true
     → pointer_at (applied (first_pulse found (seen_in Answering s)) s) r.chip ≡ r.channel
@@ -150,7 +156,7 @@ unfolding changes driving first_pulse selected seen_at
 first_pointer found s r is under armed =
     let at : r.chip ≡ answering_chip s = ap (λ (r : Reply). r.chip) (selected_is (seen_in Answering s) r (is ∙ under)).1 in
     subst (λ (found : Response). pointer_at (applied (first_pulse found (seen_in Answering s)) s) r.chip ≡ r.channel) (sym under)
-    (ap (λ (c : Chip). c.pointer) (put_there (first_pulse (Some r) (seen_in Answering s)) s r.chip refl (sym at) armed)
+    (ap (λ (c : Chip). c.pointer) (put_there (first_pulse (Some r) (seen_in Answering s)) s r.chip _ (ap (λ (at : ℕ). Some (record { at = at; chip = answered r.channel (seen_in Answering s).chip })) (sym at)) armed)
     ∙ answered_pointer r.channel _)
 
 answer_pointer : (s : Chain) (r : Reply) → verdict_of Fall s ≡ Ok tt → is_idle s.response ≡ true → selected s ≡ Some r

@@ -1,6 +1,7 @@
 -- What the types of the arrays say stays so in the definitions: events and runs keep a chain whole, and a start gives a whole one.
 -- Assumes nothing.
-use Rattle.std.specs.Prelude.{Ok, Err}
+use Rattle.std.proofs.lemmas.Option.{IfSome_then}
+use Rattle.std.specs.Prelude.{Ok, Err, IfSome}
 use mathlib.Core.Bool.{Bool, true, false}
 use mathlib.Core.List.{List}
 use mathlib.Core.Path.{◌≡◌, refl, ap, sym, subst, ◌∙◌}
@@ -107,8 +108,9 @@ finished_as channel c =
     either (AsLarge c) (bit c.acr channel) _ _ (λ auto. record { counts = refl; memory = refl }) (λ not-auto. record { counts = refl; memory = refl })
 
 -- the chip that is put in a chip's place is as large as the one that is seen there
-decided_large : (e : Event) (v : Seen) → (decided e v).replaces ≡ true → AsLarge v.chip (decided e v).chip
-decided_large e v put =
+decided_large : (e : Event) (v : Seen) → IfSome (decided e v).replaced (λ replaced. AsLarge v.chip replaced.chip)
+decided_large e v =
+    IfSome_then (decided e v).replaced
     (puts (λ e. v) (λ e c. AsLarge v.chip c)
     (record {
       command = λ i code. commanded_as (figure4 code) code v.chip;
@@ -117,8 +119,8 @@ decided_large e v put =
       first_pulse_lem = λ r idle found. answered_as r.channel v.chip;
       last_rise = λ r under. finished_as r.channel v.chip;
     })
-    e put
-    ).1
+    e)
+    (λ r there. there.1)
 
 zero_whole : WholeChip zero_chip
 unfolding zero_chip
@@ -142,7 +144,7 @@ judged_whole v e s w =
       whole_chips = λ k h.
           left (λ t. WholeChip (chip_at t k)) v e s (w.whole_chips k h)
           (λ ok. applied_chips WholeChip (decision e s) s k
-          (λ put. whole_as (seen_by e s).chip _ (decided_large e (seen_by e s) put) (each_whole s _ w))
+          (IfSome_then (decision e s).replaced (decided_large e (seen_by e s)) (λ r large. whole_as (seen_by e s).chip _ large (each_whole s _ w)))
           (w.whole_chips k h));
     }
 

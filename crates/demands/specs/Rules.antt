@@ -1,6 +1,5 @@
 -- What an accepted event and the two views give: what the rules of the model say, and nothing else.
-use Rattle.std.specs.Prelude.{Ok}
-use Rattle.std.specs.Prelude.{Bool, true, not, ◌&&◌, ◌≡◌, ℕ, ◌+◌, ◌%◌, ◌<◌}
+use Rattle.std.specs.Prelude.{Ok, Bool, true, not, ◌&&◌, ◌≡◌, ℕ, ◌+◌, ◌%◌, ◌<◌}
 use Rattle.bits.specs.Below.{digit}
 use Rattle.bits.specs.Byte.{bit}
 use Rattle.search.specs.Candidate.{exists, channel_of}

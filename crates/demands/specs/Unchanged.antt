@@ -1,6 +1,5 @@
 -- What a refusal leaves as it was (the rules paper, "Numbers handed back"): the chain, and every byte of a lent buffer.
-use Rattle.std.specs.Prelude.{Ok}
-use Rattle.std.specs.Prelude.{true, false, List, ◌≡◌, ℕ, ◌*◌, ◌≤◌, get_or, length}
+use Rattle.std.specs.Prelude.{Ok, true, false, List, ◌≡◌, ℕ, ◌*◌, ◌≤◌, get_or, length}
 use Rattle.refusal.specs.Numbers.{verdict_number, is_accepted}
 use Rattle.refusal.specs.Answers.{handed}
 use Rattle.views.specs.Views.{register_view, pin_view}

@@ -1,6 +1,5 @@
 -- What the third demand speaks of: a wait, a first pulse that reaches a chip, and the two counts. Over any chain and any list of events.
-use Rattle.std.specs.Prelude.{Some, None}
-use Rattle.std.specs.Prelude.{Bool, true, false, not, ◌&&◌, List, [], ◌∷◌, ◌≡◌, ℕ, ◌<◌, eqb}
+use Rattle.std.specs.Prelude.{Some, None, Bool, true, false, not, ◌&&◌, List, [], ◌∷◌, ◌≡◌, ℕ, ◌<◌, eqb}
 use Rattle.bits.specs.Below.{every}
 use Rattle.bits.specs.Byte.{is_waiting}
 use Rattle.figure4.specs.Figure4.{is_reset}

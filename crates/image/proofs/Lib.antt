@@ -4,3 +4,4 @@ pub mod OneToOne
 pub mod Readback
 pub mod Records
 pub mod Whole
+pub mod Made

@@ -1,34 +1,24 @@
 -- Lists of bytes: written over, and zero.
 -- Assumes nothing.
-use mathlib.Core.Bool.{true, false, ◌&&◌}
-use mathlib.Core.List.{List, [], ◌∷◌, ◌++◌, append-nil, append_assoc}
+use mathlib.Core.Bool.{true, ◌&&◌, and_assoc, and-true}
+use mathlib.Core.List.{List, [], ◌∷◌, ◌++◌, append_assoc}
 use mathlib.Core.Path.{◌≡◌, refl, sym, ap, ap₂, ◌∙◌}
-use Prim.Native.Nat.{ℕ, zero, suc, ◌+◌, ◌-◌, ◌≤◌, ◌<◌, suc-le-suc}
-use native.Mathlib.Nat.{zero-add, zero-lt-suc, le_of_eq, le_refl}
+use Prim.Native.Nat.{ℕ, ◌+◌, ◌-◌, ◌*◌, ◌≤◌}
+use native.Mathlib.Nat.{le_refl}
 use lib.Dec.{eqb}
-use lib.ListN.{length, get_or, take, drop, replicate, drop_of_length-le}
-use lib.Seq.{paste, length-paste, take-length, take_all, take_at, drop-drop, drop-append-add}
+use lib.ListN.{length, take, drop, replicate}
+use lib.Seq.{paste, length-paste, take-length, take_at, drop-drop, drop-append-add}
 use borrow.Rule.Slice.PartMut.{put_mid, Post-is}
-use borrow.Author.Tests.{ne_eqb, eq-eqb, eqb-true}
-use Rattle.bits.proofs.Below.{both_left, both_right, both_not}
+use borrow.Author.Tests.{eqb-true}
+use Rattle.bits.proofs.Below.{both_left, both_right}
 use Rattle.image.specs.Layout.{over}
-use Rattle.image.specs.Reading.{is_zero}
+use Rattle.std.specs.List.{list_all, range_with_len}
+use Rattle.std.proofs.lemmas.List.Recursion.{same_from_clauses}
+use Rattle.image.specs.Reading.{is_zero, record_form, records_form}
 
 -- a copy of all of a list is that list written over
 pub paste_over : (old : List ℕ) (at : ℕ) (new : List ℕ) → paste old at new (length new) ≡ over old at new
 paste_over old at new = ap (λ (vs : List ℕ). take at old ++ vs ++ drop (at + length new) old) (take-length new)
-
--- a copy over all of a list leaves what was copied
-pub paste_all : {A : Type 0} (old new : List A) (n : ℕ) → length old ≤ n → length new ≤ n → paste old 0 new n ≡ new
-paste_all old new n h k =
-    ap (λ rest. take n new ++ rest) (ap (λ (m : ℕ). drop m old) (zero-add n) ∙ drop_of_length-le old h)
-    ∙ append-nil (take n new)
-    ∙ take_all n new k
-
--- as many bytes written over all of a list
-pub over-all : (old new : List ℕ) → length old ≡ length new → over old 0 new ≡ new
-over-all old new h =
-    ap (λ rest. new ++ rest) (ap (λ (m : ℕ). drop m old) (zero-add (length new)) ∙ drop_of_length-le old (le_of_eq h)) ∙ append-nil new
 
 -- bytes written behind those already written
 pub over_next : (p l new : List ℕ) (at next : ℕ) → length p ≡ at → at + length new ≡ next → over (p ++ drop at l) at new ≡ (p ++ new) ++ drop next l
@@ -48,20 +38,16 @@ part_over xs ys a e h ends =
 pub length_over : (old : List ℕ) (at : ℕ) (new : List ℕ) → at + length new ≤ length old → length (over old at new) ≡ length old
 length_over old at new h = ap length (sym (paste_over old at new)) ∙ length-paste old at new (length new) h (le_refl (length new))
 
--- bytes one of which is not zero are not all zero
-pub zero_not : (b : List ℕ) (k : ℕ) → (get_or b k 0 ≡ 0 → ⊥) → is_zero b ≡ false
-zero_not [] k is = absurd (is refl)
-zero_not (x ∷ xs) zero is = ap (λ t. t && is_zero xs) (ne_eqb x 0 is)
-zero_not (x ∷ xs) (suc k) is = both_not (eqb x 0) (is_zero xs) (zero_not xs k is)
-
--- bytes each of which is zero are
-pub zero_each : (b : List ℕ) → ((k : ℕ) → k < length b → get_or b k 0 ≡ 0) → is_zero b ≡ true
-zero_each [] each = refl
-zero_each (x ∷ xs) each =
-    ap₂ (λ s t. s && t) (eq-eqb x 0 (each 0 (zero-lt-suc (length xs)))) (zero_each xs (λ k h. each (suc k) (suc-le-suc h)))
-
--- and there is one list of them of each length
+-- there is one list of zeros of each length
 pub zero_is : (b : List ℕ) → is_zero b ≡ true → b ≡ replicate (length b) 0
 zero_is [] h = refl
 zero_is (x ∷ xs) h =
     ap₂ (λ z zs. z ∷ zs) (eqb-true x 0 (both_left (eqb x 0) (is_zero xs) h)) (zero_is xs (both_right (eqb x 0) (is_zero xs) h))
+
+-- `is_zero` and `records_form` in the words in which std says what `all` gives
+pub zero_all : (b : List ℕ) → is_zero b ≡ list_all (λ x. eqb x 0) b
+zero_all = same_from_clauses is_zero (list_all (λ x. eqb x 0)) (λ x rest. eqb x 0 && rest) refl (λ _ _. refl) (λ _ _. refl)
+
+pub records_all : (b : List ℕ) → records_form b ≡ list_all (λ i. record_form (drop (16 + 64 * i) b)) (range_with_len 0 8)
+unfolding records_form
+records_all b = simp (and_assoc, and-true)

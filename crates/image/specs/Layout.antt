@@ -1,6 +1,5 @@
 -- The chain image: a chain as 528 bytes. A head of 16, then the eight chip records of 64, chip 0 first.
-use Rattle.std.specs.Prelude.{Some, None}
-use Rattle.std.specs.Prelude.{List, [], ◌∷◌, ◌++◌, ℕ, ◌+◌, ◌/◌, ◌%◌, length, take, drop, replicate}
+use Rattle.std.specs.Prelude.{Some, None, List, [], ◌∷◌, ◌++◌, ℕ, ◌+◌, ◌/◌, ◌%◌, length, take, drop, replicate}
 use Rattle.bits.specs.Below.{digit}
 use Rattle.chip.specs.declared.Chip.{Chip}
 use Rattle.chip.specs.declared.Destination.{Destination}

@@ -12,9 +12,7 @@ pub fn put_bytes(to: &mut [u8], at: usize, from: &[u8])
     requires { at + length from.now ≤ length to.old }
     ensures { to.new ≡ over to.old at from.now }
 {
-    for k in 0usize..from.len() {
-        to[at + k] = from[k];
-    }
+    to[at..at + from.len()].copy_from_slice(from);
 }
 
 // A destination's three bytes.
@@ -33,8 +31,7 @@ fn destination_bytes(destination: Destination) -> [u8; 3]
 fn register_bytes(chip: Chip) -> [u8; 16]
     ensures { result ≡ register_bytes chip }
 {
-    let destination = chip.destination;
-    let to = destination_bytes(destination);
+    let [kind, level, place] = destination_bytes(chip.destination);
     [
         chip.irr,
         chip.isr,
@@ -44,9 +41,9 @@ fn register_bytes(chip: Chip) -> [u8; 16]
         chip.command,
         chip.lines,
         chip.pointer,
-        to[0],
-        to[1],
-        to[2],
+        kind,
+        level,
+        place,
         0,
         0,
         0,
@@ -56,18 +53,15 @@ fn register_bytes(chip: Chip) -> [u8; 16]
 }
 
 // A chip record.
+#[tactic(auto, using(crate::proofs::Records::record_written))]
 pub fn put_chip(r: &mut [u8], chip: Chip)
     requires { length r.old ≡ 64 }
     ensures { r.new ≡ chip_record chip }
 {
-    let registers = register_bytes(chip);
-    let counts = chip.counts;
-    let zeros = [0u8; 8];
-    let memory = chip.memory;
-    put_bytes(r, 0, &registers);
-    put_bytes(r, 16, &counts);
-    put_bytes(r, 24, &zeros);
-    put_bytes(r, 32, &memory);
+    put_bytes(r, 0, &register_bytes(chip));
+    put_bytes(r, 16, &chip.counts);
+    put_bytes(r, 24, &[0; 8]);
+    put_bytes(r, 32, &chip.memory);
 }
 
 // A response's six bytes.
@@ -75,29 +69,30 @@ pub fn response_bytes(response: Response) -> [u8; 6]
     ensures { result ≡ response_bytes response }
 {
     match response {
-        Response::Idle => [0, 0, 0, 0, 0, 0],
-        Response::UnderWay(r) => [1, r.chip, r.channel, r.level, r.length, r.delivered],
+        None => [0; 6],
+        Some(r) => [1, r.chip, r.channel, r.level, r.length, r.delivered],
     }
 }
 
 // The head.
+#[tactic(auto, unfolding(crate::specs::Layout::head))]
 fn head_of(chain: Chain) -> [u8; 16]
     ensures { result ≡ head chain }
 {
-    let response = chain.response;
-    let to = response_bytes(response);
+    let event = chain.event.to_le_bytes();
+    let response = response_bytes(chain.response);
     [
         chain.count,
         bits::digit_of(chain.enable),
         bits::digit_of(chain.iack),
-        (chain.event % 256) as u8,
-        (chain.event / 256) as u8,
-        to[0],
-        to[1],
-        to[2],
-        to[3],
-        to[4],
-        to[5],
+        event[0],
+        event[1],
+        response[0],
+        response[1],
+        response[2],
+        response[3],
+        response[4],
+        response[5],
         0,
         0,
         0,
@@ -107,15 +102,14 @@ fn head_of(chain: Chain) -> [u8; 16]
 }
 
 // The whole image.
+#[tactic(auto, using(crate::proofs::Records::written_head, crate::proofs::Records::written_more))]
 pub fn put_chain(image: &mut [u8], chain: Chain)
     requires { length image.old ≡ 528 }
     ensures { image.new ≡ image_of chain }
 {
-    let head = head_of(chain);
-    put_bytes(image, 0, &head);
-    for i in 0usize..8 {
+    put_bytes(image, 0, &head_of(chain));
+    for (i, chip) in chain.chips.iter().enumerate() {
         let at = RECORDS + RECORD * i;
-        let end = at + RECORD;
-        put_chip(&mut image[at..end], chain.chips[i]);
+        put_chip(&mut image[at..at + RECORD], *chip);
     }
 }

@@ -1,7 +1,7 @@
 -- What an event on an image is shown is enough: its verdict is that over what the chain shows, and where it is accepted so is what is decided, and a chip that is
 -- replaced is one of the eight.
 -- Assumes nothing.
-use Rattle.std.specs.Prelude.{Some, None, Ok, Err}
+use Rattle.std.specs.Prelude.{Some, None, Ok, Err, IfSome, IsErrAnd}
 use mathlib.Core.Bool.{Bool, true, false}
 use mathlib.Core.Path.{◌≡◌, refl, ap, sym, subst, ◌∙◌}
 use Prim.Native.Nat.{ℕ, ◌≤◌, ◌<◌, ◌%◌}
@@ -34,44 +34,51 @@ use Rattle.chain.specs.Events.{accepted, refused, event_of}
 use Rattle.chain.specs.Seen.{looked_at, looked_ei, seen_at, seen_by}
 use Rattle.chain.specs.Sound.{sound}
 use Rattle.chain.specs.declared.Chain.{Chain}
+use Rattle.chain.specs.declared.Outcome.{Outcome}
+use Rattle.refusal.specs.Numbers.{Answer}
+use Rattle.std.proofs.lemmas.Result.{err_from_is_err_and}
 use Rattle.parts.specs.Round.{seen_round, shown_to}
+
+-- a chip that is replaced is one of the eight
+abbrev pub Within : Change → Type 0
+Within c = IfSome c.replaced (λ replaced. replaced.at < 8)
 
 -- an event is told and does the same by what it is shown, v, and by what there is to see, w
 pub record Enough (e : Event) (v w : Seen) : Type 0 where
   pub verdict : verdict_on e v ≡ verdict_on e w
   pub change : verdict_on e v ≡ Ok tt → decided e v ≡ decided e w
-  pub at : verdict_on e v ≡ Ok tt → (decided e v).at < 8
+  pub at : verdict_on e v ≡ Ok tt → Within (decided e v)
   pub sound_seen : seen_sound v ≡ true
 
 -- the chip that is replaced is the one that is looked at
-first_at : (found : Response) (v : Seen) → v.at < 8 → (first_pulse found v).at < 8
+first_at : (found : Response) (v : Seen) → v.at < 8 → Within (first_pulse found v)
 unfolding decisions
-first_at None v h = omega arith
+first_at None v h = tt
 first_at (Some r) v h = h
 
-fallen_at : (response : Response) (v : Seen) → v.at < 8 → (fallen response v).at < 8
+fallen_at : (response : Response) (v : Seen) → v.at < 8 → Within (fallen response v)
 unfolding decisions
 fallen_at None v h = first_at (selected_by v) v h
-fallen_at (Some r) v h = omega arith
+fallen_at (Some r) v h = tt
 
-after_at : (last : Bool) (r : Reply) (v : Seen) → v.at < 8 → (risen_after last r v).at < 8
+after_at : (last : Bool) (r : Reply) (v : Seen) → v.at < 8 → Within (risen_after last r v)
 unfolding decisions
 after_at true r v h = h
-after_at false r v h = omega arith
+after_at false r v h = tt
 
-risen_at : (response : Response) (v : Seen) → v.at < 8 → (risen response v).at < 8
+risen_at : (response : Response) (v : Seen) → v.at < 8 → Within (risen response v)
 unfolding decisions
-risen_at None v h = omega arith
+risen_at None v h = tt
 risen_at (Some r) v h = after_at (eqb r.delivered r.length) r v h
 
-decided_at : (e : Event) (v : Seen) → v.at < 8 → (decided e v).at < 8
+decided_at : (e : Event) (v : Seen) → v.at < 8 → Within (decided e v)
 unfolding changes decided
-decided_at (Command i code) v h = either (λ (c : Change). c.at < 8) (ends_response v.at code v.response) _ _ (λ ends. h) (λ stays. h)
+decided_at (Command i code) v h = either (λ (c : Change). Within c) (ends_response v.at code v.response) _ _ (λ ends. h) (λ stays. h)
 decided_at (Data i byte) v h = h
-decided_at (Status i) v h = omega arith
-decided_at (Read i) v h = omega arith
+decided_at (Status i) v h = tt
+decided_at (Read i) v h = tt
 decided_at (Line i channel level) v h = h
-decided_at (Enable level) v h = omega arith
+decided_at (Enable level) v h = tt
 decided_at Fall v h = fallen_at v.response v h
 decided_at Rise v h = risen_at v.response v h
 
@@ -115,7 +122,7 @@ rise_idles v is = simp is
 enable_enough : (level : ℕ) (s : Chain) → sound s ≡ true → 8 ≤ s.count → Enough (Enable level) (shown_to (Enable level) s) (seen_by (Enable level) s)
 unfolding seen_round seen_at changes decided
 enable_enough level s here past =
-    record { verdict = refl; change = λ ok. refl; at = λ ok. omega arith; sound_seen = past-sound s _ _ here past }
+    record { verdict = refl; change = λ ok. refl; at = λ ok. tt; sound_seen = past-sound s _ _ here past }
 
 past_enough : (e : Event) (s : Chain) → sound s ≡ true → 8 ≤ looked_at (look_of e s.response) s → Enough e (shown_to e s) (seen_by e s)
 unfolding seen_round seen_at changes
@@ -135,7 +142,7 @@ past_enough Fall s here past = by s.response refl
         record {
           verdict = refl;
           change = λ ok. stalls ∙ sym (fall_stalls (seen_by Fall s) is over);
-          at = λ ok. rw stalls (omega arith);
+          at = λ ok. rw stalls tt;
           sound_seen = past-sound s _ _ here past;
         }
     by (Some r) is =
@@ -149,7 +156,7 @@ past_enough Rise s here past = by s.response refl
         record {
           verdict = refl;
           change = λ ok. idles ∙ sym (rise_idles (seen_by Rise s) is);
-          at = λ ok. rw idles (omega arith);
+          at = λ ok. rw idles tt;
           sound_seen = past-sound s _ _ here past;
         }
     by (Some r) is =
@@ -165,17 +172,31 @@ enough e s v is here =
     by true t = below_enough e s here (ltb-true _ _ t)
     by false t = past_enough e s here (ltb-false _ _ t)
 
--- so what it decides by that is what it hands back
-pub does : (e : Event) (s : Chain) (v : Seen) (c : Change) → v ≡ shown_to e s → sound s ≡ true → verdict_on e v ≡ Ok tt → c ≡ decided e v → accepted c s ≡ event_of e s
-does e s v c is here told by =
-    let v-enough = enough e s v is here in
-    ap (λ (c : Change). accepted c s) (by ∙ v-enough.change told) ∙ sym (is_accepted_lem e s (seen_by e s) refl here (sym v-enough.verdict ∙ told))
+-- so where the verdict on what it is shown accepts, what it decides by that is what it hands back ..
+pub does : (e : Event) (s : Chain) (v : Seen) (c : Change) (answer : Answer) (after : Chain) → v ≡ shown_to e s → sound s ≡ true → verdict_on e v ≡ Ok tt → c ≡ decided e v
+    → answer ≡ (accepted c s).answer
+    → after ≡ (accepted c s).chain
+    → (answer ≡ (event_of e s).answer) × (after ≡ (event_of e s).chain)
+does e s v c answer after is here told by answers leaves = (answers ∙ ap (λ (o : Outcome). o.answer) same, leaves ∙ ap (λ (o : Outcome). o.chain) same)
+  where
+    v-enough : Enough e v (seen_by e s)
+    v-enough = enough e s v is here
+    same : accepted c s ≡ event_of e s
+    same =
+        ap (λ (c : Change). accepted c s) (by ∙ v-enough.change told) ∙ sym (is_accepted_lem e s (seen_by e s) refl here (sym v-enough.verdict ∙ told))
 
-pub lands : (e : Event) (s : Chain) (v : Seen) (c : Change) → v ≡ shown_to e s → sound s ≡ true → verdict_on e v ≡ Ok tt → c ≡ decided e v → c.at < 8
-lands e s v c is here told by = subst (λ (c : Change). c.at < 8) (sym by) ((enough e s v is here).at told)
+pub lands : (e : Event) (s : Chain) (v : Seen) (c : Change) → v ≡ shown_to e s → sound s ≡ true → verdict_on e v ≡ Ok tt → c ≡ decided e v → Within c
+lands e s v c is here told by = subst (λ (c : Change). Within c) (sym by) ((enough e s v is here).at told)
 
-pub declines : (e : Event) (s : Chain) (v : Seen) (why : Refusal) → v ≡ shown_to e s → sound s ≡ true → verdict_on e v ≡ Err why → refused why s ≡ event_of e s
-declines e s v why is here told = sym (is_refused e s (seen_by e s) why refl here (sym (enough e s v is here).verdict ∙ told))
+-- .. and where it refuses, the refusal is handed on, and the chain is as given
+pub declines : (e : Event) (s : Chain) (v : Seen) (why : Refusal) (answer : Answer) → v ≡ shown_to e s → sound s ≡ true → verdict_on e v ≡ Err why
+    → IsErrAnd answer (λ (r : Refusal). r ≡ why)
+    → (answer ≡ (event_of e s).answer) × (s ≡ (event_of e s).chain)
+unfolding refused
+declines e s v why answer is here told handed_on =
+    let same = sym (is_refused e s (seen_by e s) why refl here (sym (enough e s v is here).verdict ∙ told)) in
+    let found = err_from_is_err_and answer handed_on in
+    (found.1 ∙ ap Err found.2 ∙ ap (λ (o : Outcome). o.answer) same, ap (λ (o : Outcome). o.chain) same)
 
 -- a pulse looks at no Enable In
 pub no_ei : (look : Look) (response : Response) (s : Chain) → looked_ei look s ≡ false → looked_ei (unless_responding look response) s ≡ false

@@ -1,6 +1,6 @@
 // Each event on an image where it lies. An arm for each, so that an event reads and writes no more than it needs: where it looks, its tests and its change are those of
 // `decide`, and no rule stands here.
-ghost use Rattle.std.specs.Prelude.{true, ◌≡◌, ◌<◌};
+ghost use Rattle.std.specs.Prelude.{true, IfSome, ◌≡◌, ◌<◌};
 ghost use Rattle.event.specs.declared.Event.TheVariants.{Command, Data, Status, Read, Line, Enable, Fall, Rise};
 ghost use Rattle.chain.specs.Events.{accepted, event_of};
 ghost use Rattle.chain.specs.Sound.{sound};
@@ -16,12 +16,12 @@ use image::places::COUNT;
 use image::reading::response_in;
 use parts::apply::{apply, looked_at, seen_round, walked};
 use parts::places::count_event;
-use refusal::{Answer, Verdict};
+use refusal::Answer;
 
 // What an accepted event does, and one more event counted.
 fn accept(image: &mut [u8], change: Change) -> Answer
     requires image_form { is_image image.old ≡ true }
-    requires at_bound { change.at < 8 }
+    requires at_bound { IfSome change.replaced (λ replaced. replaced.at < 8) }
     ensures value { result ≡ (accepted change (chain_in image.old)).answer }
     ensures form_after { is_image image.new ≡ true }
     ensures chain_after { chain_in image.new ≡ (accepted change (chain_in image.old)).chain }
@@ -40,11 +40,8 @@ pub(crate) fn command(image: &mut [u8], i: u8, code: u8) -> Answer
     ensures chain_after { chain_in image.new ≡ (event_of (Command i code) (chain_in image.old)).chain }
 {
     let seen = seen_round(image, i, false);
-    let judged = command_verdict(seen.count, seen.at, seen.iack, code);
-    match judged {
-        Verdict::Accepted => accept(image, seen.command(i, code)),
-        Verdict::Refused(why) => Answer::Refused(why),
-    }
+    command_verdict(seen.count, seen.at, seen.iack, code)?;
+    accept(image, seen.command(i, code))
 }
 
 // A data write.
@@ -56,12 +53,8 @@ pub(crate) fn data_write(image: &mut [u8], i: u8, byte: u8) -> Answer
     ensures chain_after { chain_in image.new ≡ (event_of (Data i byte) (chain_in image.old)).chain }
 {
     let seen = seen_round(image, i, false);
-    let chip = seen.chip;
-    let judged = data_verdict(seen.count, seen.at, seen.iack, chip);
-    match judged {
-        Verdict::Accepted => accept(image, seen.data_write(i, byte)),
-        Verdict::Refused(why) => Answer::Refused(why),
-    }
+    data_verdict(seen.count, seen.at, seen.iack, seen.chip)?;
+    accept(image, seen.data_write(i, byte))
 }
 
 // A status read.
@@ -73,11 +66,8 @@ pub(crate) fn status(image: &mut [u8], i: u8) -> Answer
     ensures chain_after { chain_in image.new ≡ (event_of (Status i) (chain_in image.old)).chain }
 {
     let seen = seen_round(image, i, walked(image, i).ei);
-    let judged = bus_verdict(seen.count, seen.at, seen.iack);
-    match judged {
-        Verdict::Accepted => accept(image, seen.status(i)),
-        Verdict::Refused(why) => Answer::Refused(why),
-    }
+    bus_verdict(seen.count, seen.at, seen.iack)?;
+    accept(image, seen.status(i))
 }
 
 // A data read.
@@ -89,11 +79,8 @@ pub(crate) fn read(image: &mut [u8], i: u8) -> Answer
     ensures chain_after { chain_in image.new ≡ (event_of (Read i) (chain_in image.old)).chain }
 {
     let seen = seen_round(image, i, false);
-    let judged = bus_verdict(seen.count, seen.at, seen.iack);
-    match judged {
-        Verdict::Accepted => accept(image, seen.read(i)),
-        Verdict::Refused(why) => Answer::Refused(why),
-    }
+    bus_verdict(seen.count, seen.at, seen.iack)?;
+    accept(image, seen.read(i))
 }
 
 // A line takes a level.
@@ -105,11 +92,8 @@ pub(crate) fn line(image: &mut [u8], i: u8, channel: u8, level: u8) -> Answer
     ensures chain_after { chain_in image.new ≡ (event_of (Line i channel level) (chain_in image.old)).chain }
 {
     let seen = seen_round(image, i, false);
-    let judged = line_verdict(seen.count, seen.at, channel, level);
-    match judged {
-        Verdict::Accepted => accept(image, seen.line(i, channel, level)),
-        Verdict::Refused(why) => Answer::Refused(why),
-    }
+    line_verdict(seen.count, seen.at, channel, level)?;
+    accept(image, seen.line(i, channel, level))
 }
 
 // The chain's Enable In takes a level.
@@ -121,11 +105,8 @@ pub(crate) fn enable(image: &mut [u8], level: u8) -> Answer
     ensures chain_after { chain_in image.new ≡ (event_of (Enable level) (chain_in image.old)).chain }
 {
     let seen = seen_round(image, image[COUNT], false);
-    let judged = level_verdict(level);
-    match judged {
-        Verdict::Accepted => accept(image, seen.enable(level)),
-        Verdict::Refused(why) => Answer::Refused(why),
-    }
+    level_verdict(level)?;
+    accept(image, seen.enable(level))
 }
 
 // IACK falls.
@@ -138,11 +119,8 @@ pub(crate) fn fall(image: &mut [u8]) -> Answer
 {
     let at = looked_at(image, Look::of(Event::Fall, response_in(image)));
     let seen = seen_round(image, at, false);
-    let judged = fall_verdict(seen.iack);
-    match judged {
-        Verdict::Accepted => accept(image, seen.fall()),
-        Verdict::Refused(why) => Answer::Refused(why),
-    }
+    fall_verdict(seen.iack)?;
+    accept(image, seen.fall())
 }
 
 // IACK rises.
@@ -155,9 +133,6 @@ pub(crate) fn rise(image: &mut [u8]) -> Answer
 {
     let at = looked_at(image, Look::of(Event::Rise, response_in(image)));
     let seen = seen_round(image, at, false);
-    let judged = rise_verdict(seen.iack);
-    match judged {
-        Verdict::Accepted => accept(image, seen.rise()),
-        Verdict::Refused(why) => Answer::Refused(why),
-    }
+    rise_verdict(seen.iack)?;
+    accept(image, seen.rise())
 }

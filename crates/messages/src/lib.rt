@@ -15,32 +15,7 @@ use steps::{Argument, Expected};
 use text::Way;
 use text::cast::put_cast;
 use text::put::{put, put_field};
-use text::tables::put_line;
 use text::words::{begins, first};
-
-// The arguments' names, each in the line of its number.
-const SLOTS: [u8; 47] = *b" COUNT\n FILL\n CHIP\n CODE\n BYTE\n CHANNEL\n LEVEL\n";
-
-// What to write for each.
-const HELPS: [u8; 318] = *b"\
-    \x20(how many chips, decimal, 1 to 8)\n\
-    \x20(the byte in the response memory at power-up, one or two hex digits)\n\
-    \x20(a chip's number, decimal, 0 for the first)\n\
-    \x20(a command, one or two hex digits)\n\
-    \x20(a byte, one or two hex digits)\n\
-    \x20(a channel's number, decimal, 0 to 7)\n\
-    \x20(a level, 0 or 1)\n\
-    \x20the end of the line, or a comment with #";
-
-// What helps with a number that has 0x before it, each in the line of its argument's number; with the end of a line nothing does.
-const NUMBER_HINTS: [u8; 247] = *b"\
-    ; write it in decimal, without 0x\n\
-    ; write the digits alone, without 0x\n\
-    ; write it in decimal, without 0x\n\
-    ; write the digits alone, without 0x\n\
-    ; write the digits alone, without 0x\n\
-    ; write it in decimal, without 0x\n\
-    ; write it in decimal, without 0x\n";
 
 // at L STEP refused R: and what the number says.
 pub fn put_refused(to: &mut [u8], at: usize, line: u64, step: Numbered, why: Refusal) -> usize
@@ -65,7 +40,7 @@ pub fn put_malformed(to: &mut [u8], at: usize, line: u64, expected: Expected, fo
     let next = put_found(to, next, found);
     let next = put(to, next, b", ");
     let next = put_expected(to, next, expected);
-    let next = put_hint(to, next, expected, found);
+    let next = put(to, next, hint(expected, found));
     put(to, next, b"\n")
 }
 
@@ -73,7 +48,7 @@ pub fn put_malformed(to: &mut [u8], at: usize, line: u64, expected: Expected, fo
 fn put_found(to: &mut [u8], at: usize, found: &[u8]) -> usize
     ensures { (to.new, result) ≡ written (to.old, at) (found_text found.now) }
 {
-    if found.len() == 0 {
+    if found.is_empty() {
         put(to, at, b"(no word)")
     } else {
         put_cast(to, at, first(found, 40), Way::Shown)
@@ -81,40 +56,42 @@ fn put_found(to: &mut [u8], at: usize, found: &[u8]) -> usize
 }
 
 // What may help.
-fn put_hint(to: &mut [u8], at: usize, expected: Expected, found: &[u8]) -> usize
-    ensures { (to.new, result) ≡ written (to.old, at) (hint expected found.now) }
+fn hint(expected: Expected, found: &[u8]) -> &'static [u8]
+    ensures { result.now ≡ hint expected found.now }
 {
     match expected {
-        Expected::Shorter => at,
-        Expected::TheStart => put_name_hint(to, at, found),
-        Expected::AnEvent => put_name_hint(to, at, found),
-        Expected::Wanted(_, argument) => put_number_hint(to, at, argument, found),
+        Expected::Shorter => b"",
+        Expected::TheStart | Expected::AnEvent => name_hint(found),
+        Expected::Wanted(_, argument) => number_hint(argument, found),
     }
 }
 
-fn put_name_hint(to: &mut [u8], at: usize, found: &[u8]) -> usize
-    ensures { (to.new, result) ≡ written (to.old, at) (name_hint found.now) }
+fn name_hint(found: &[u8]) -> &'static [u8]
+    ensures { result.now ≡ name_hint found.now }
 {
     if has_mark(found) {
-        put(
-            to,
-            at,
-            b"; a byte order mark stands before it: save the list as plain text, without one",
-        )
+        b"; a byte order mark stands before it: save the list as plain text, without one"
     } else if in_capitals(found) {
-        put(to, at, b"; names are written in small letters")
+        b"; names are written in small letters"
     } else {
-        at
+        b""
     }
 }
 
-fn put_number_hint(to: &mut [u8], at: usize, argument: Argument, found: &[u8]) -> usize
-    ensures { (to.new, result) ≡ written (to.old, at) (number_hint argument found.now) }
+// With a number that has 0x before it; with the end of a line nothing does.
+#[tactic(auto, unfolding(text::specs::Words::line_end))]
+fn number_hint(argument: Argument, found: &[u8]) -> &'static [u8]
+    ensures { result.now ≡ number_hint argument found.now }
 {
-    if has_0x(found) {
-        put_line(to, at, &NUMBER_HINTS, argument.number())
-    } else {
-        at
+    if !has_0x(found) {
+        return b"";
+    }
+    match argument {
+        Argument::Count | Argument::Chip | Argument::Channel | Argument::Level => {
+            b"; write it in decimal, without 0x"
+        }
+        Argument::Fill | Argument::Code | Argument::Byte => b"; write the digits alone, without 0x",
+        Argument::End => b"",
     }
 }
 
@@ -122,14 +99,14 @@ fn put_number_hint(to: &mut [u8], at: usize, argument: Argument, found: &[u8]) -
 fn has_mark(found: &[u8]) -> bool
     ensures { result ≡ has_mark found.now }
 {
-    begins(b"\xEF\xBB\xBF", found) | begins(b"\xFF\xFE", found) | begins(b"\xFE\xFF", found)
+    begins(b"\xEF\xBB\xBF", found) || begins(b"\xFF\xFE", found) || begins(b"\xFE\xFF", found)
 }
 
 // Whether it is written as some languages write hex.
 fn has_0x(found: &[u8]) -> bool
     ensures { result ≡ has0x found.now }
 {
-    begins(b"0x", found) | begins(b"0X", found)
+    begins(b"0x", found) || begins(b"0X", found)
 }
 
 // What was expected.
@@ -157,8 +134,8 @@ fn put_wanted(to: &mut [u8], at: usize, kind: u8, argument: Argument) -> usize
     ensures { (to.new, result) ≡ written (to.old, at) (joined (wanted_parts kind argument)) }
 {
     let next = put(to, at, b"expected");
-    let next = put_slot(to, next, argument);
-    let next = put_help(to, next, argument);
+    let next = put(to, next, slot(argument));
+    let next = put(to, next, help(argument));
     let next = put(to, next, b", as in: ");
     put_form(to, next, kind)
 }
@@ -168,24 +145,42 @@ fn put_form(to: &mut [u8], at: usize, kind: u8) -> usize
     ensures { (to.new, result) ≡ written (to.old, at) (joined (form_parts kind (form_of kind))) }
 {
     let form = form_of(kind);
-    let first = form.chip;
-    let second = form.channel;
-    let third = form.value;
     let next = put_name(to, at, kind);
-    let next = put_slot(to, next, first);
-    let next = put_slot(to, next, second);
-    put_slot(to, next, third)
+    let next = put(to, next, slot(form.chip));
+    let next = put(to, next, slot(form.channel));
+    put(to, next, slot(form.value))
 }
 
-// An argument's name, and what to write for it.
-fn put_slot(to: &mut [u8], at: usize, argument: Argument) -> usize
-    ensures { (to.new, result) ≡ written (to.old, at) (slot argument) }
+// An argument's name; what a step does not take has none.
+#[tactic(auto, unfolding(crate::specs::Messages::slot, text::specs::Words::line_end))]
+fn slot(argument: Argument) -> &'static [u8]
+    ensures { result.now ≡ slot argument }
 {
-    put_line(to, at, &SLOTS, argument.number())
+    match argument {
+        Argument::Count => b" COUNT",
+        Argument::Fill => b" FILL",
+        Argument::Chip => b" CHIP",
+        Argument::Code => b" CODE",
+        Argument::Byte => b" BYTE",
+        Argument::Channel => b" CHANNEL",
+        Argument::Level => b" LEVEL",
+        Argument::End => b"",
+    }
 }
 
-fn put_help(to: &mut [u8], at: usize, argument: Argument) -> usize
-    ensures { (to.new, result) ≡ written (to.old, at) (help argument) }
+// What to write for it.
+#[tactic(auto, unfolding(crate::specs::Messages::help, text::specs::Words::line_end))]
+fn help(argument: Argument) -> &'static [u8]
+    ensures { result.now ≡ help argument }
 {
-    put_line(to, at, &HELPS, argument.number())
+    match argument {
+        Argument::Count => b" (how many chips, decimal, 1 to 8)",
+        Argument::Fill => b" (the byte in the response memory at power-up, one or two hex digits)",
+        Argument::Chip => b" (a chip's number, decimal, 0 for the first)",
+        Argument::Code => b" (a command, one or two hex digits)",
+        Argument::Byte => b" (a byte, one or two hex digits)",
+        Argument::Channel => b" (a channel's number, decimal, 0 to 7)",
+        Argument::Level => b" (a level, 0 or 1)",
+        Argument::End => b" the end of the line, or a comment with #",
+    }
 }

@@ -6,9 +6,7 @@ use mathlib.Core.Path.{refl}
 use Prim.Native.Nat.{ℕ, suc, ◌≤◌}
 use native.Mathlib.Omega.{arith}
 use lib.ListN.{length, drop, length-drop}
-use Rattle.text.specs.Words.{passes, lead, line_end, word_start, word_end}
-use Rattle.text.specs.declared.Sort.{Sort}
-use Rattle.text.specs.declared.Sort.TheVariants.{Blank, Letter, Inside}
+use Rattle.text.specs.Words.{is_blank, is_inside, is_letter, lead, line_end, word_start, word_end}
 use Rattle.outcomes.specs.PageParts.{OnePagePart}
 use Rattle.outcomes.proofs.Outcomes.{only, the_one}
 use Rattle.outcomes.proofs.Pages.{the_written}
@@ -18,21 +16,21 @@ one_further : (b : Bool) (n m : ℕ) → n ≤ m → cond b (suc n) 0 ≤ suc m
 one_further true n m h = omega (arith, h)
 one_further false n m h = omega arith
 
-lead_le : (sort : Sort) (l : List ℕ) → lead sort l ≤ length l
-lead_le sort [] = omega arith
-lead_le sort (c ∷ cs) = one_further (passes sort c) (lead sort cs) (length cs) (lead_le sort cs)
+lead_le : (passes : ℕ → Bool) (l : List ℕ) → lead passes l ≤ length l
+lead_le passes [] = omega arith
+lead_le passes (c ∷ cs) = one_further (passes c) (lead passes cs) (length cs) (lead_le passes cs)
 
 line_end_le : (l : List ℕ) → line_end l ≤ length l
 unfolding line_end
-line_end_le l = lead_le Inside l
+line_end_le l = lead_le is_inside l
 
 word_start_le : (l : List ℕ) → word_start l ≤ length l
 unfolding word_start
-word_start_le l = lead_le Blank l
+word_start_le l = lead_le is_blank l
 
 word_end_le : (l : List ℕ) → word_end l ≤ length l
 unfolding word_end
-word_end_le l = omega (arith, word_start_le l, lead_le Letter (drop (word_start l) l), length-drop (word_start l) l)
+word_end_le l = omega (arith, word_start_le l, lead_le is_letter (drop (word_start l) l), length-drop (word_start l) l)
 
 start_end : (l : List ℕ) → word_start l ≤ word_end l
 unfolding word_end

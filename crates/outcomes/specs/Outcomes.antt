@@ -16,13 +16,13 @@ use contract.Lifetimes.{Lfts}
 use Rattle.std.specs.Borrow.{Bor, MutBor}
 use denote.Ref.{at_last}
 use Rattle.search.specs.Candidate.{search_number}
-use Rattle.refusal.proofs.Answer.byte.Reads as answer_byte
-use Rattle.refusal.proofs.Answer.drove.Reads as answer_drove
-use Rattle.refusal.proofs.Answer.number.Reads as answer_number
-use Rattle.refusal.proofs.Answer.verdict.Reads as answer_verdict
+use Rattle.refusal.proofs.answers.byte.Reads as answer_byte
+use Rattle.refusal.proofs.answers.drove.Reads as answer_drove
+use Rattle.refusal.proofs.answers.number.Reads as answer_number
+use Rattle.refusal.proofs.answers.verdict_in.Reads as answer_verdict
 use Rattle.refusal.proofs.Refusal.number.Reads as refusal_number_outcome
-use Rattle.refusal.proofs.Verdict.is_accepted.Reads as verdict_is_accepted
-use Rattle.refusal.proofs.Verdict.number.Reads as verdict_number_outcome
+use Rattle.refusal.proofs.is_accepted.Reads as verdict_is_accepted
+use Rattle.refusal.proofs.verdict_number.Reads as verdict_number_outcome
 use Rattle.refusal.specs.Answers.{verdict_in, handed}
 use Rattle.refusal.specs.Numbers.{refusal_number, verdict_number, is_accepted}
 use Rattle.refusal.specs.Numbers.{Answer}

@@ -1,7 +1,6 @@
 -- The same of every other function of the model that another crate can see and that takes every input: the parts of which the calls are made. How to read a field:
 -- `Outcomes`. Those that ask for something are listed, each with its ground, in docs/PROMISES.md; the gate sees that every function is in one of the two places.
-use Rattle.std.specs.Prelude.{Option}
-use Rattle.std.specs.Prelude.{Bool, not, List, [], ◌∷◌, ℕ, ◌+◌, ◌*◌}
+use Rattle.std.specs.Prelude.{Option, Bool, not, List, [], ◌∷◌, ℕ, ◌+◌, ◌*◌}
 use contract.Lifetimes.{Lfts}
 use Rattle.std.specs.Borrow.{Bor}
 use Rattle.bits.proofs.digit_of.Reads as digit_of
@@ -13,16 +12,16 @@ use Rattle.bits.specs.Below.{digit}
 use Rattle.bits.specs.Byte.{bit, waiting, with_bit, without_bit}
 use Rattle.order.proofs.first_channel.Reads as first_channel_outcome
 use Rattle.order.specs.Order.{first_channel}
-use Rattle.search.proofs.Candidate.channel.Reads as candidate_channel
-use Rattle.search.proofs.Candidate.exists.Reads as candidate_exists
-use Rattle.search.proofs.Candidate.number.Reads as candidate_number_outcome
+use Rattle.search.proofs.channel_of.Reads as candidate_channel
+use Rattle.search.proofs.exists.Reads as candidate_exists
+use Rattle.search.proofs.candidate_number.Reads as candidate_number_outcome
 use Rattle.search.proofs.candidate_of.Reads as candidate_of_outcome
 use Rattle.search.proofs.clear_highest.Reads as clear_highest_outcome
 use Rattle.search.specs.Candidate.{candidate, candidate_number, channel_of, exists}
 use Rattle.search.specs.Clear.{clear_highest}
-use Rattle.figure4.proofs.Meaning.is_reset.Reads as is_reset_outcome
-use Rattle.figure4.proofs.Meaning.is_undefined.Reads as is_undefined_outcome
-use Rattle.figure4.proofs.Meaning.of.Reads as meaning_of_outcome
+use Rattle.figure4.proofs.is_reset.Reads as is_reset_outcome
+use Rattle.figure4.proofs.is_undefined.Reads as is_undefined_outcome
+use Rattle.figure4.proofs.CommandTryFromU8.try_from.Reads as meaning_of_outcome
 use Rattle.figure4.specs.Figure4.{figure4, is_reset, undefined}
 use Rattle.figure4.specs.Figure4.{Meaning}
 use Rattle.chip.proofs.Chip.candidate.Reads as chip_candidate
@@ -52,18 +51,18 @@ use Rattle.chip.specs.Reset.{power_up}
 use Rattle.chip.specs.Sound.{chip_sound}
 use Rattle.chip.specs.Status.{candidate_of, gint_active, gint_pin, is_armed, status_byte, waiting_number}
 use Rattle.chip.specs.declared.Chip.{Chip}
-use Rattle.event.proofs.Event.numbers.Reads as event_numbers
-use Rattle.event.proofs.Listed.of.Reads as listed_of
+use Rattle.event.proofs.NumberedFromEvent.from.Reads as event_numbers
+use Rattle.event.proofs.EventTryFromNumbered.try_from.Reads as listed_of
 use Rattle.event.proofs.next_number.Reads as next_number_outcome
 use Rattle.event.specs.Counting.{next_number}
-use Rattle.event.specs.Numbers.{listed, in_numbers}
+use Rattle.event.specs.Numbers.{listed, numbered, in_numbers}
 use Rattle.event.specs.declared.Event.TheVariants.{Command, Status, Read, Line, Enable, Rise}
 use Rattle.event.specs.declared.Event.{Event}
 use Rattle.refusal.specs.Numbers.{first_of_list}
-use Rattle.response.proofs.Response.ends_by.Reads as response_ends_by
-use Rattle.response.proofs.Response.eo_of.Reads as response_eo_of
-use Rattle.response.proofs.Response.is_idle.Reads as response_is_idle
-use Rattle.response.proofs.Response.is_sound.Reads as response_is_sound
+use Rattle.response.proofs.held.ends_response.Reads as response_ends_by
+use Rattle.response.proofs.along.eo_of.Reads as response_eo_of
+use Rattle.response.proofs.held.is_idle.Reads as response_is_idle
+use Rattle.response.proofs.sound.is_sound.Reads as response_is_sound
 use Rattle.response.proofs.Walk.at_first.Reads as walk_at_first
 use Rattle.response.specs.Held.{ends_response, is_idle}
 use Rattle.response.specs.Sound.{response_sound}
@@ -148,13 +147,13 @@ pub record OnePart : Type 0 where
   pub chip_response_byte : (c : Chip) (level place : ℕ)
       → Determined chip_response_byte.Asked chip_response_byte.Post tt (c, (level, (place, tt))) (response_byte c level place)
   -- event: any four numbers as an event, and the event number after one more
-  pub listed_of : (kind chip channel value : ℕ) → Determined listed_of.Asked listed_of.Post tt (kind, (chip, (channel, (value, tt)))) (listed kind chip channel value)
+  pub listed_of : (kind chip channel value : ℕ) → Determined listed_of.Asked listed_of.Post tt (numbered kind chip channel value, tt) (listed kind chip channel value)
   pub event_numbers : (e : Event) → Determined event_numbers.Asked event_numbers.Post tt (e, tt) (in_numbers e)
   pub next_number_outcome : (number : ℕ) → Determined next_number_outcome.Asked next_number_outcome.Post tt (number, tt) (next_number number)
   -- response: what any response says, and the walk before chip 0
   pub response_is_idle : (r : Response) → Determined response_is_idle.Asked response_is_idle.Post tt (r, tt) (is_idle r)
-  pub response_ends_by : (r : Response) (i code : ℕ) → Determined response_ends_by.Asked response_ends_by.Post tt (r, (i, (code, tt))) (ends_response i code r)
-  pub response_eo_of : (r : Response) (ei : Bool) (c : Chip) (i : ℕ) → Determined response_eo_of.Asked response_eo_of.Post tt (r, (ei, (c, (i, tt)))) (eo_of ei c r i)
+  pub response_ends_by : (r : Response) (i code : ℕ) → Determined response_ends_by.Asked response_ends_by.Post tt (i, (code, (r, tt))) (ends_response i code r)
+  pub response_eo_of : (r : Response) (ei : Bool) (c : Chip) (i : ℕ) → Determined response_eo_of.Asked response_eo_of.Post tt (ei, (c, (r, (i, tt)))) (eo_of ei c r i)
   pub response_is_sound : (r : Response) (count : ℕ) (iack : Bool)
       → Determined response_is_sound.Asked response_is_sound.Post tt (r, (count, (iack, tt))) (response_sound count iack r)
   pub walk_at_first : (enable : Bool) → Determined walk_at_first.Asked walk_at_first.Post tt (enable, tt) (record { at = 0; ei = enable; answering = 0 })

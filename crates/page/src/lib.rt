@@ -52,33 +52,33 @@ fn put_event(
 }
 
 // The byte that an answer has.
+#[tactic(auto, using(text::proofs::Written::one_after_the_other, text::proofs::Written::written_none))]
 fn put_byte(to: &mut [u8], at: usize, answer: Answer) -> usize
     ensures { (to.new, result) ≡ written (to.old, at) (byte_text answer) }
 {
     match answer {
-        Answer::Done => at,
-        Answer::Byte(b) => put_byte_field(to, at, b" byte ", b),
-        Answer::Refused(_) => at,
+        Ok(Some(b)) => put_byte_field(to, at, b" byte ", b),
+        Ok(None) | Err(_) => at,
     }
 }
 
 // Two lines for each chip in the count.
+#[tactic(auto, using(crate::proofs::Chips::chips_more, crate::proofs::Chips::chips_end))]
 fn put_chips(to: &mut [u8], at: usize, chain: Chain) -> usize
     ensures { (to.new, result) ≡ written (to.old, at) (chips_from chain.count 0 chain) }
 {
     let mut next = at;
-    for i in 0u8..chain.count {
+    for i in 0..chain.count {
         next = put_chip(to, next, i, chain);
     }
     next
 }
 
 // The two lines of a chip are its two views.
+#[tactic(auto, using(text::proofs::Written::one_after_the_other, text::proofs::Written::written_none))]
 fn put_chip(to: &mut [u8], at: usize, i: u8, chain: Chain) -> usize
     ensures { (to.new, result) ≡ written (to.old, at) (chip_lines i chain) }
 {
-    let picture = pin_view(chain, i);
-    let table = register_view(chain, i);
-    let next = put_pins_line(to, at, i, picture);
-    put_registers_line(to, next, i, table)
+    let next = put_pins_line(to, at, i, pin_view(chain, i));
+    put_registers_line(to, next, i, register_view(chain, i))
 }

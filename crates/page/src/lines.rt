@@ -7,28 +7,24 @@ use text::put::{put, put_byte_field, put_field};
 use views::{PinView, Pins, RegisterView, Registers};
 
 // The line of the pins, from the pin view.
+#[tactic(auto, using(text::proofs::Written::one_after_the_other, text::proofs::Written::written_none), unfolding(crate::specs::Page::pins_line))]
 pub(crate) fn put_pins_line(to: &mut [u8], at: usize, i: u8, view: PinView) -> usize
     ensures { (to.new, result) ≡ written (to.old, at) (pins_line i view) }
 {
-    let verdict = view.verdict;
-    let pins = view.picture;
-    if verdict.is_accepted() {
-        put_pins(to, at, i, pins)
-    } else {
-        at
+    match view.verdict {
+        Ok(()) => put_pins(to, at, i, view.picture),
+        Err(_) => at,
     }
 }
 
 // The line of the registers, from the register view.
+#[tactic(auto, using(text::proofs::Written::one_after_the_other, text::proofs::Written::written_none), unfolding(crate::specs::Page::registers_line))]
 pub(crate) fn put_registers_line(to: &mut [u8], at: usize, i: u8, view: RegisterView) -> usize
     ensures { (to.new, result) ≡ written (to.old, at) (registers_line i view) }
 {
-    let verdict = view.verdict;
-    let registers = view.table;
-    if verdict.is_accepted() {
-        put_registers(to, at, i, registers)
-    } else {
-        at
+    match view.verdict {
+        Ok(()) => put_registers(to, at, i, view.table),
+        Err(_) => at,
     }
 }
 

@@ -1,5 +1,5 @@
 // What an event looks at in an image, and an image with what is decided applied where it lies.
-ghost use Rattle.std.specs.Prelude.{true, ◌≡◌, ◌<◌};
+ghost use Rattle.std.specs.Prelude.{true, IfSome, ◌≡◌, ◌<◌};
 ghost use Rattle.chain.specs.Apply.{replaced_in, set_in, applied};
 ghost use Rattle.chain.specs.Seen.{looked_at};
 ghost use Rattle.chain.specs.Walk.{walked_to};
@@ -19,7 +19,7 @@ pub fn walked(image: &[u8], to: u8) -> Walk
 {
     let response = response_in(image);
     let mut walk = Walk::at_first(image[ENABLE] == 1);
-    for i in 0u8..to {
+    for i in 0..to {
         walk = walk.past(chip_at(image, i), response);
     }
     walk
@@ -32,8 +32,7 @@ pub fn looked_at(image: &[u8], look: Look) -> u8
 {
     match look {
         Look::Nowhere => image[COUNT],
-        Look::At(i) => i,
-        Look::AtEi(i) => i,
+        Look::At(i) | Look::AtEi(i) => i,
         Look::Answering => walked(image, image[COUNT]).answering,
     }
 }
@@ -49,43 +48,41 @@ pub fn seen_round(image: &[u8], at: u8, ei: bool) -> Seen
         enable: image[ENABLE] == 1,
         iack: image[IACK] == 1,
         response: response_in(image),
-        at: at,
+        at,
         chip: chip_round(image, at),
-        ei: ei,
+        ei,
     }
 }
 
 // The chip that is replaced, if one is.
+#[tactic(auto, unfolding(chain::specs::Apply::replaced_in))]
 fn replace(image: &mut [u8], change: Change)
     requires image_form { is_image image.old ≡ true }
-    requires at_bound { change.at < 8 }
+    requires at_bound { IfSome change.replaced (λ replaced. replaced.at < 8) }
     ensures form_after { is_image image.new ≡ true }
     ensures chain_after { chain_in image.new ≡ replaced_in change (chain_in image.old) }
 {
-    if !change.replaces {
-        return;
+    if let Some(replaced) = change.replaced {
+        set_chip(image, replaced.at, replaced.chip);
     }
-    let chip = change.chip;
-    set_chip(image, change.at, chip);
 }
 
 // The chain's own fields, if they are set.
+#[tactic(auto, unfolding(chain::specs::Apply::set_in))]
 fn set(image: &mut [u8], change: Change)
     requires { is_image image.old ≡ true }
     ensures form_after { is_image image.new ≡ true }
     ensures chain_after { chain_in image.new ≡ set_in change (chain_in image.old) }
 {
-    if !change.sets {
-        return;
+    if let Some(own) = change.own {
+        set_own(image, own.enable, own.iack, own.response);
     }
-    let response = change.response;
-    set_own(image, change.enable, change.iack, response);
 }
 
 // What is decided.
 pub fn apply(image: &mut [u8], change: Change)
     requires image_form { is_image image.old ≡ true }
-    requires at_bound { change.at < 8 }
+    requires at_bound { IfSome change.replaced (λ replaced. replaced.at < 8) }
     ensures form_after { is_image image.new ≡ true }
     ensures chain_after { chain_in image.new ≡ applied change (chain_in image.old) }
 {

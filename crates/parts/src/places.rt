@@ -41,8 +41,7 @@ pub(crate) fn set_chip(image: &mut [u8], i: u8, chip: Chip)
     ensures chain_after { chain_in image.new ≡ with_chip i chip (chain_in image.old) }
 {
     let at = RECORDS + RECORD * (i % 8) as usize;
-    let end = at + RECORD;
-    put_chip(&mut image[at..end], chip);
+    put_chip(&mut image[at..at + RECORD], chip);
 }
 
 // The chain's own fields set: Enable In, IACK and the response.
@@ -51,8 +50,7 @@ pub(crate) fn set_own(image: &mut [u8], enable: bool, iack: bool, response: Resp
     ensures form_after { is_image image.new ≡ true }
     ensures chain_after { chain_in image.new ≡ with_own enable iack response (chain_in image.old) }
 {
-    let bytes = response_bytes(response);
-    put_bytes(image, RESPONSE, &bytes);
+    put_bytes(image, RESPONSE, &response_bytes(response));
     image[ENABLE] = bits::digit_of(enable);
     image[IACK] = bits::digit_of(iack);
 }

@@ -11,38 +11,37 @@ use Rattle.steps.specs.Lines.{step_of, found_in}
 use Rattle.steps.specs.declared.Expected.TheVariants.{Shorter}
 use Rattle.steps.specs.declared.Step.TheVariants.{Malformed}
 use Rattle.text.proofs.Fits.{fits}
-use Rattle.text.specs.Words.{lead, line_end, word}
-use Rattle.text.specs.declared.Sort.TheVariants.{Inside}
+use Rattle.text.specs.Words.{is_inside, lead, line_end, word}
 
 -- a text of at most 16,384 bytes is on the page
 on_it : (print : List ℕ) → length print ≤ 16384 → OnThePage print
 on_it print h = record { all_there = λ page is. fits.whole page print (omega (arith, h, is)) }
 
 -- a line without a line feed: none of its bytes is one
-inner : (c : ℕ) (cs : List ℕ) → lead Inside (c ∷ cs) ≡ length (c ∷ cs) → (eqb c 10 ≡ false) × (lead Inside cs ≡ length cs)
+inner : (c : ℕ) (cs : List ℕ) → lead is_inside (c ∷ cs) ≡ length (c ∷ cs) → (eqb c 10 ≡ false) × (lead is_inside cs ≡ length cs)
 inner c cs is = either (eqb c 10) refl
   where
-    either : (t : Bool) → eqb c 10 ≡ t → (eqb c 10 ≡ false) × (lead Inside cs ≡ length cs)
+    either : (t : Bool) → eqb c 10 ≡ t → (eqb c 10 ≡ false) × (lead is_inside cs ≡ length cs)
     either true at =
-        let none : 0 ≡ suc (length cs) = sym (ap (λ t. cond (not t) (suc (lead Inside cs)) 0) at) ∙ is in
+        let none : 0 ≡ suc (length cs) = sym (ap (λ t. cond (not t) (suc (lead is_inside cs)) 0) at) ∙ is in
         absurd (omega (arith, none))
     either false at =
-        let more : suc (lead Inside cs) ≡ suc (length cs) = sym (ap (λ t. cond (not t) (suc (lead Inside cs)) 0) at) ∙ is in
+        let more : suc (lead is_inside cs) ≡ suc (length cs) = sym (ap (λ t. cond (not t) (suc (lead is_inside cs)) 0) at) ∙ is in
         (at, omega (arith, more))
 
 -- it is the first line of a text that has a line feed behind it,
-first_line : (line rest : List ℕ) → lead Inside line ≡ length line → lines_of (line ++ (10 ∷ rest)) ≡ line ∷ lines_of rest
+first_line : (line rest : List ℕ) → lead is_inside line ≡ length line → lines_of (line ++ (10 ∷ rest)) ≡ line ∷ lines_of rest
 first_line [] rest is = refl
 first_line (c ∷ cs) rest is =
-    let both : (eqb c 10 ≡ false) × (lead Inside cs ≡ length cs) = inner c cs is in
+    let both : (eqb c 10 ≡ false) × (lead is_inside cs ≡ length cs) = inner c cs is in
     ap (λ t. cond t ([] ∷ lines_of (cs ++ (10 ∷ rest))) (before c (lines_of (cs ++ (10 ∷ rest))))) both.0
     ∙ ap (before c) (first_line cs rest both.1)
 
 -- and the only one of a text that has none
-only_line : (line : List ℕ) → lead Inside line ≡ length line → lines_of line ≡ line ∷ []
+only_line : (line : List ℕ) → lead is_inside line ≡ length line → lines_of line ≡ line ∷ []
 only_line [] is = refl
 only_line (c ∷ cs) is =
-    let both : (eqb c 10 ≡ false) × (lead Inside cs ≡ length cs) = inner c cs is in
+    let both : (eqb c 10 ≡ false) × (lead is_inside cs ≡ length cs) = inner c cs is in
     ap (λ t. cond t ([] ∷ lines_of cs) (before c (lines_of cs))) both.0 ∙ ap (before c) (only_line cs both.1)
 
 -- a text has a first line

@@ -1,6 +1,5 @@
 -- A report of an event list: what each line prints, and what the whole list does.
-use Rattle.std.specs.Prelude.{Ok, Err}
-use Rattle.std.specs.Prelude.{◌≡◌, ℕ, ◌+◌, ◌%◌, ◌^◌, Bool, true, false, cond, List, [], ◌∷◌, ◌++◌, ◌==◌}
+use Rattle.std.specs.Prelude.{Ok, Err, ◌≡◌, ℕ, ◌+◌, ◌%◌, ◌^◌, Bool, true, false, cond, List, [], ◌∷◌, ◌++◌, ◌==◌}
 use Rattle.chain.specs.Events.{event_of}
 use Rattle.chain.specs.Fields.{zero_chain}
 use Rattle.chain.specs.Start.{start_of}

@@ -10,7 +10,6 @@ use chain::{Chain, Outcome};
 use event::Numbered;
 use messages::{put_malformed, put_refused};
 use page::put_page;
-use refusal::Verdict;
 use steps::kinds::START;
 use steps::line::{found_in, step_of};
 use steps::{Expected, Step};
@@ -47,34 +46,29 @@ impl Course {
     pub fn has_ended(self) -> bool
         ensures { result ≡ has_ended self }
     {
-        match self {
-            Course::GoesOn => false,
-            Course::Over => true,
-            Course::Stopped => true,
-        }
+        !matches!(self, Course::GoesOn)
     }
 }
 
 impl Report {
     // Before the first line.
+    #[tactic(auto, unfolding(crate::specs::Report::at_first, chain::specs::Start::start_of))]
     pub fn new() -> Report
         ensures { result ≡ at_first }
     {
-        let none = Chain::start(0, 0);
-        let chain = none.chain;
         Report {
             line: 1,
             started: false,
-            chain: chain,
+            chain: Chain::start(0, 0).chain,
         }
     }
 
     // A line, without its line feed, prints onto the page.
+    #[tactic(auto, using(text::proofs::Written::written_none), unfolding(crate::specs::Report::reply, crate::specs::Report::line_reply))]
     pub fn take(self, line: &[u8], page: &mut [u8]) -> Taken
         ensures { Tells (reply line.now self) page.old result page.new }
     {
-        let step = step_of(self.started, line);
-        match step {
+        match step_of(self.started, line) {
             Step::Nothing => self.goes_on(self.started, self.chain, 0),
             Step::Start(count, fill) => {
                 let started = Chain::start(count, fill);
@@ -88,7 +82,7 @@ impl Report {
             }
             Step::Happens(event) => {
                 let happened = self.chain.on(event);
-                self.answer(event.numbers(), happened, page)
+                self.answer(Numbered::from(event), happened, page)
             }
             Step::Malformed(expected, place) => {
                 let length = put_malformed(page, 0, self.line, expected, found_in(line, place));
@@ -98,12 +92,12 @@ impl Report {
     }
 
     // The last line of a list, which ends with it.
+    #[tactic(auto, using(text::proofs::Written::one_after_the_other), unfolding(crate::specs::Report::last_reply, crate::specs::Report::closed))]
     pub fn take_last(self, line: &[u8], page: &mut [u8]) -> Taken
         ensures { Tells (last_reply line.now self) page.old result page.new }
     {
         let taken = self.take(line, page);
-        let course = taken.course;
-        if course.has_ended() {
+        if taken.course.has_ended() {
             return taken;
         }
         let report = taken.report;
@@ -115,22 +109,18 @@ impl Report {
     }
 
     // An accepted step prints its page, a refused one its refusal.
+    #[tactic(auto, unfolding(crate::specs::Report::step_reply))]
     fn answer(self, step: Numbered, outcome: Outcome, page: &mut [u8]) -> Taken
         ensures { Tells (step_reply step outcome.answer outcome.chain self) page.old result page.new }
     {
-        let answer = outcome.answer;
-        let chain = outcome.chain;
-        let verdict = answer.verdict();
-        match verdict {
-            Verdict::Accepted => self.goes_on(
+        let Outcome { answer, chain } = outcome;
+        match answer {
+            Ok(_) => self.goes_on(
                 true,
                 chain,
                 put_page(page, 0, self.line, step, answer, chain),
             ),
-            Verdict::Refused(why) => self.ends(
-                put_refused(page, 0, self.line, step, why),
-                Course::Stopped,
-            ),
+            Err(why) => self.ends(put_refused(page, 0, self.line, step, why), Course::Stopped),
         }
     }
 
@@ -138,13 +128,13 @@ impl Report {
         ensures { result ≡ record { report = next_report started chain self; length = length; course = GoesOn } }
     {
         let report = Report {
-            line: std::num::wrapping_add_u64(self.line, 1),
-            started: started,
-            chain: chain,
+            line: self.line.wrapping_add(1),
+            started,
+            chain,
         };
         Taken {
-            report: report,
-            length: length,
+            report,
+            length,
             course: Course::GoesOn,
         }
     }
@@ -154,8 +144,8 @@ impl Report {
     {
         Taken {
             report: self,
-            length: length,
-            course: course,
+            length,
+            course,
         }
     }
 }

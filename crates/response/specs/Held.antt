@@ -1,6 +1,5 @@
 -- What is held of a response (the rules paper, "A chip" and events 1, 7 and 8).
-use Rattle.std.specs.Prelude.{Some, None}
-use Rattle.std.specs.Prelude.{Bool, true, false, ◌&&◌, ℕ, ◌+◌, eqb}
+use Rattle.std.specs.Prelude.{Bool, true, false, ◌&&◌, Option, Some, None, ℕ, ◌+◌, eqb}
 use Rattle.search.specs.Candidate.{channel_of}
 use Rattle.chip.specs.Acknowledge.{response_level, response_length}
 use Rattle.figure4.specs.Figure4.{is_reset}
@@ -8,6 +7,9 @@ use Rattle.chip.specs.Status.{candidate_of}
 use Rattle.chip.specs.declared.Chip.{Chip}
 use Rattle.response.specs.declared.Reply.{Reply}
 
+-- the response that is under way, if one is: there is one at most
+abbrev pub Response : Type 0
+Response = Option Reply
 
 -- the response of chip i for its candidate, before its first byte: level and length are held from here on
 abbrev pub reply_of : ℕ → Chip → Reply

@@ -1,6 +1,5 @@
 -- When the record of a response is sound (the rules paper, "A chip").
-use Rattle.std.specs.Prelude.{Some, None}
-use Rattle.std.specs.Prelude.{Bool, true, cond, ◌&&◌, ℕ, leb, ltb}
+use Rattle.std.specs.Prelude.{Some, None, Bool, true, cond, ◌&&◌, ℕ, leb, ltb}
 use Rattle.response.specs.declared.Reply.{Reply}
 use Rattle.response.specs.Held.{Response}
 

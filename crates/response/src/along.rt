@@ -3,16 +3,15 @@
 ghost use Rattle.std.specs.Prelude.{◌≡◌, ◌<◌};
 ghost use Rattle.response.specs.Walk.{eo_of, past, answers_first};
 
+use crate::held::is_responding;
 use crate::{Response, Walk};
 use chip::Chip;
 
-impl Response {
-    // EO of chip i at a level of its EI, with this response: low if EI is low, if M7 is clear, or if the chip is responding.
-    pub fn eo_of(self, ei: bool, chip: Chip, i: u8) -> bool
-        ensures { result ≡ eo_of ei chip self i }
-    {
-        ei & chip.is_armed() & !self.is_of(i)
-    }
+// EO of chip i at a level of its EI, with a response: low if EI is low, if M7 is clear, or if the chip is responding.
+pub fn eo_of(ei: bool, chip: Chip, response: Response, i: u8) -> bool
+    ensures { result ≡ eo_of ei chip response i }
+{
+    ei & chip.is_armed() & !is_responding(response, i)
 }
 
 impl Walk {
@@ -28,16 +27,15 @@ impl Walk {
     }
 
     // Past the next chip.
+    #[tactic(auto, unfolding(crate::specs::Walk::past))]
     pub fn past(self, chip: Chip, response: Response) -> Walk
         requires { self.at < 255 }
         ensures { result ≡ past chip response self }
     {
-        let answering = self.answers_first(chip);
-        let eo = response.eo_of(self.ei, chip, self.at);
         Walk {
             at: self.at + 1,
-            ei: eo,
-            answering: answering,
+            ei: eo_of(self.ei, chip, response, self.at),
+            answering: self.answers_first(chip),
         }
     }
 
@@ -49,10 +47,7 @@ impl Walk {
         if self.answering < self.at {
             return self.answering;
         }
-        if !self.ei {
-            return self.at + 1;
-        }
-        if chip.gint_active() {
+        if self.ei && chip.gint_active() {
             self.at
         } else {
             self.at + 1

@@ -5,7 +5,8 @@ ghost use Rattle.response.specs.Held.{reply_of, one_more, is_idle, is_responding
 
 use crate::{Reply, Response};
 use chip::Chip;
-use figure4::Meaning;
+use figure4::is_reset;
+use search::channel_of;
 
 impl Reply {
     // The response of chip i for its candidate, before its first byte: level and length are held from here on.
@@ -13,15 +14,12 @@ impl Reply {
         requires { chip_sound chip ≡ true }
         ensures { result ≡ reply_of i chip }
     {
-        let candidate = chip.candidate();
-        let channel = candidate.channel();
-        let level = chip.response_level(channel);
-        let length = chip.response_length(channel);
+        let channel = channel_of(chip.candidate());
         Reply {
             chip: i,
-            channel: channel,
-            level: level,
-            length: length,
+            channel,
+            level: chip.response_level(channel),
+            length: chip.response_length(channel),
             delivered: 0,
         }
     }
@@ -31,36 +29,31 @@ impl Reply {
         requires { self.delivered < 255 }
         ensures { result ≡ one_more self }
     {
-        self.delivered = self.delivered + 1;
+        self.delivered += 1;
         self
     }
 }
 
-impl Response {
-    // Whether no response is under way.
-    pub fn is_idle(self) -> bool
-        ensures { result ≡ is_idle self }
-    {
-        match self {
-            Response::Idle => true,
-            Response::UnderWay(_) => false,
-        }
-    }
+// Whether no response is under way.
+pub fn is_idle(response: Response) -> bool
+    ensures { result ≡ is_idle response }
+{
+    response.is_none()
+}
 
-    // Whether chip i is responding.
-    pub(crate) fn is_of(self, i: u8) -> bool
-        ensures { result ≡ is_responding self i }
-    {
-        match self {
-            Response::Idle => false,
-            Response::UnderWay(r) => r.chip == i,
-        }
+// Whether chip i is responding.
+pub(crate) fn is_responding(response: Response, i: u8) -> bool
+    ensures { result ≡ is_responding response i }
+{
+    match response {
+        None => false,
+        Some(reply) => reply.chip == i,
     }
+}
 
-    // Whether a command to chip i ends the response: a reset of the responding chip does.
-    pub fn ends_by(self, i: u8, code: u8) -> bool
-        ensures { result ≡ ends_response i code self }
-    {
-        Meaning::is_reset(code) & self.is_of(i)
-    }
+// Whether a command to chip i ends the response: a reset of the responding chip does.
+pub fn ends_response(i: u8, code: u8, response: Response) -> bool
+    ensures { result ≡ ends_response i code response }
+{
+    is_reset(code) & is_responding(response, i)
 }

@@ -2,9 +2,9 @@
 // responds.
 #![tactic(auto)]
 
-mod along;
-mod held;
-mod sound;
+pub mod along;
+pub mod held;
+pub mod sound;
 
 // A response that is under way, and how many of its bytes the chip has driven.
 #[derive(Clone, Copy)]
@@ -16,12 +16,8 @@ pub struct Reply {
     pub delivered: u8,
 }
 
-// At most one response is under way.
-#[derive(Clone, Copy)]
-pub enum Response {
-    Idle,
-    UnderWay(Reply),
-}
+// The response that is under way, if one is: there is one at most.
+pub type Response = Option<Reply>;
 
 // The walk along the chain, from chip 0 on: the next chip, its Enable In, and the first chip so far that answers; the next chip itself if none does.
 #[derive(Clone, Copy)]

@@ -17,19 +17,17 @@ impl Reply {
     }
 }
 
-impl Response {
-    // A response names a chip in the count, channel and level at most 7, and has a length of 1 to 4.
-    pub fn is_sound(self, count: u8, iack: bool) -> bool
-        ensures { result ≡ response_sound count iack self }
-    {
-        match self {
-            Response::Idle => true,
-            Response::UnderWay(r) => (r.chip < count)
-                & (r.channel <= 7)
-                & (r.level <= 7)
-                & (1 <= r.length)
-                & (r.length <= 4)
-                & r.is_delivered_soundly(iack),
-        }
+// A response names a chip in the count, channel and level at most 7, and has a length of 1 to 4.
+pub fn is_sound(response: Response, count: u8, iack: bool) -> bool
+    ensures { result ≡ response_sound count iack response }
+{
+    match response {
+        None => true,
+        Some(r) => (r.chip < count)
+            & (r.channel <= 7)
+            & (r.level <= 7)
+            & (1 <= r.length)
+            & (r.length <= 4)
+            & r.is_delivered_soundly(iack),
     }
 }

@@ -1,6 +1,5 @@
 -- A run (the rules paper, "Views and runs"): it stops at the limit, the end or the first refusal, and keeps what it accepted.
-use Rattle.std.specs.Prelude.{Ok, Err}
-use Rattle.std.specs.Prelude.{Bool, not, cond, List, [], ◌∷◌, ℕ, zero, suc, ◌+◌, ◌*◌, ◌/◌, ◌%◌, min, eqb, ltb, length, set}
+use Rattle.std.specs.Prelude.{Ok, Err, Bool, not, cond, List, [], ◌∷◌, ℕ, zero, suc, ◌+◌, ◌*◌, ◌/◌, ◌%◌, min, eqb, ltb, length, set}
 use Rattle.refusal.specs.Numbers.{is_accepted, first_of_list}
 use Rattle.refusal.specs.declared.Refusal.{Refusal}
 use Rattle.refusal.specs.declared.Refusal.TheVariants.{BrokenEvent, ShortResults, UnknownKind}

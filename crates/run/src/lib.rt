@@ -16,7 +16,7 @@ use chain::Chain;
 use image::LENGTH;
 use image::reading::chain_in;
 use image::writing::put_chain;
-use refusal::{Refusal, Verdict};
+use refusal::{Refusal, Verdict, is_accepted};
 
 // What a run reports, and the chain handed back. `accepted` counts the events accepted.
 #[derive(Clone, Copy)]
@@ -32,26 +32,20 @@ pub fn run(chain: Chain, bytes: &[u8], limit: usize, results: &mut [u8]) -> Ran
     ensures results_after { results.new ≡ (run_of chain bytes.now limit results.old).results }
 {
     let verdict = before_any(chain, bytes.len(), results.len());
-    if !verdict.is_accepted() {
-        return Ran::stopped(verdict, 0, chain);
+    if !is_accepted(verdict) {
+        return Ran {
+            verdict,
+            accepted: 0,
+            chain,
+        };
     }
-    let mut image = [0u8; LENGTH];
+    let mut image = [0; LENGTH];
     put_chain(&mut image, chain);
     let reached = run_in(&mut image, bytes, limit, results);
-    let last = reached.verdict;
-    Ran::stopped(last, reached.accepted, chain_in(&image))
-}
-
-impl Ran {
-    // What is handed back where a run stops.
-    fn stopped(verdict: Verdict, accepted: usize, chain: Chain) -> Ran
-        ensures { result ≡ record { verdict = verdict; accepted = accepted; chain = chain } }
-    {
-        Ran {
-            verdict: verdict,
-            accepted: accepted,
-            chain: chain,
-        }
+    Ran {
+        verdict: reached.verdict,
+        accepted: reached.accepted,
+        chain: chain_in(&image),
     }
 }
 
@@ -60,13 +54,13 @@ pub fn before_any(chain: Chain, length: usize, room: usize) -> Verdict
     ensures { result ≡ first_of_list (not_sound chain ∷ broken_event length ∷ short_results length room ∷ []) }
 {
     if !chain.is_sound() {
-        return Verdict::Refused(Refusal::NotSound);
+        return Err(Refusal::NotSound);
     }
     if length % 4 != 0 {
-        return Verdict::Refused(Refusal::BrokenEvent);
+        return Err(Refusal::BrokenEvent);
     }
     if room < 2 * (length / 4) {
-        return Verdict::Refused(Refusal::ShortResults);
+        return Err(Refusal::ShortResults);
     }
-    Verdict::Accepted
+    Ok(())
 }

@@ -7,8 +7,9 @@ ghost use Rattle.refusal.specs.Numbers.{is_accepted};
 ghost use Rattle.run.specs.Run.{listed_outcome, noted, stopped, run_from, before_any, run_of};
 
 use crate::list::listed_at;
-use event::Listed;
+use event::{Event, UnknownKind};
 use in_place::on;
+use refusal::answers::{byte, drove};
 use refusal::{Answer, Refusal, Verdict};
 
 // What a run over an image reports; the chain is in the image.
@@ -18,15 +19,8 @@ pub struct Reached {
     pub accepted: usize,
 }
 
-// The smaller of two.
-fn least(a: usize, b: usize) -> usize
-    ensures { result ≡ min a b }
-{
-    if a < b { a } else { b }
-}
-
 // A listed event: 12, kind outside 1 to 8, before the event's own refusals.
-fn step_in(image: &mut [u8], listed: Listed) -> Answer
+fn step_in(image: &mut [u8], listed: Result<Event, UnknownKind>) -> Answer
     requires image_form { is_image image.old ≡ true }
     requires chain_sound { sound (chain_in image.old) ≡ true }
     ensures value { result ≡ (listed_outcome listed (chain_in image.old)).answer }
@@ -34,8 +28,8 @@ fn step_in(image: &mut [u8], listed: Listed) -> Answer
     ensures chain_after { chain_in image.new ≡ (listed_outcome listed (chain_in image.old)).chain }
 {
     match listed {
-        Listed::Known(e) => on(image, e),
-        Listed::Unknown => Answer::Refused(Refusal::UnknownKind),
+        Ok(e) => on(image, e),
+        Err(_) => Err(Refusal::UnknownKind),
     }
 }
 
@@ -45,8 +39,8 @@ fn note(results: &mut [u8], n: usize, answer: Answer)
     ensures { results.new ≡ noted n (handed answer) results.old }
 {
     let first = 2 * n;
-    results[first] = answer.drove();
-    results[first + 1] = answer.byte();
+    results[first] = drove(answer);
+    results[first + 1] = byte(answer);
 }
 
 // The first so many events of the list.
@@ -59,21 +53,20 @@ fn perform_in(image: &mut [u8], bytes: &[u8], count: usize, results: &mut [u8]) 
     ensures results_after { stopped result.verdict result.accepted (chain_in image.new) results.new
         ≡ run_from count bytes.now 0 (chain_in image.old) results.old }
 {
-    let mut n = 0;
-    while n < count {
+    for n in 0..count {
         let answer = step_in(image, listed_at(bytes, n));
-        let verdict = answer.verdict();
-        if !verdict.is_accepted() {
-            return Reached {
-                verdict: verdict,
-                accepted: n,
-            };
+        match answer {
+            Ok(_) => note(results, n, answer),
+            Err(why) => {
+                return Reached {
+                    verdict: Err(why),
+                    accepted: n,
+                };
+            }
         }
-        note(results, n, answer);
-        n += 1;
     }
     Reached {
-        verdict: Verdict::Accepted,
+        verdict: Ok(()),
         accepted: count,
     }
 }
@@ -86,5 +79,5 @@ pub fn run_in(image: &mut [u8], bytes: &[u8], limit: usize, results: &mut [u8]) 
     ensures results_after { stopped result.verdict result.accepted (chain_in image.new) results.new
         ≡ run_of (chain_in image.old) bytes.now limit results.old }
 {
-    perform_in(image, bytes, least(limit, bytes.len() / 4), results)
+    perform_in(image, bytes, limit.min(bytes.len() / 4), results)
 }

@@ -19,7 +19,6 @@ use Rattle.text.proofs.ReadBack.{each, each_append, each_at, plain_byte, plain, 
 use Rattle.text.specs.Tables.{place_in}
 use Rattle.text.specs.Words.{is_letter, lead, line_end, word_start, word_end, word, behind, decimal_in, hex_in}
 use Rattle.text.specs.Written.{decimal, hex_byte}
-use Rattle.text.specs.declared.Sort.TheVariants.{Letter}
 use Rattle.steps.specs.Kinds.{name_of, kind_of, form_of}
 use Rattle.steps.specs.Lines.{value_of, behind_argument, is_over, step_from, read_by, read_as, step_in, text_end, step_of}
 use Rattle.steps.specs.OneSpelling.{InBytes, OneSpelling}
@@ -47,7 +46,7 @@ Taken End n = n ≡ 0
 abbrev Reads : Argument → ℕ → List ℕ → Type 0
 Reads a n rest = (value_of a (word (spelled_as a n ++ rest)) ≡ Some n) × (behind_argument a (spelled_as a n ++ rest) ≡ rest)
 
-argument_read : (a : Argument) (n : ℕ) (rest : List ℕ) → Taken a n → lead Letter rest ≡ 0 → Reads a n rest
+argument_read : (a : Argument) (n : ℕ) (rest : List ℕ) → Taken a n → lead is_letter rest ≡ 0 → Reads a n rest
 unfolding behind_argument
 argument_read Count n rest h none = number_back decimal decimal_in n rest (decimal_back n h) none
 argument_read Fill n rest h none = number_back hex_byte hex_in n rest (hex_back n h) none
@@ -59,7 +58,7 @@ argument_read Level n rest h none = number_back decimal decimal_in n rest (decim
 argument_read End n rest h none = (ap Some (sym h), refl)
 
 -- an argument begins with a blank, or is none
-begins_blank : (a : Argument) (n : ℕ) (rest : List ℕ) → lead Letter rest ≡ 0 → lead Letter (spelled_as a n ++ rest) ≡ 0
+begins_blank : (a : Argument) (n : ℕ) (rest : List ℕ) → lead is_letter rest ≡ 0 → lead is_letter (spelled_as a n ++ rest) ≡ 0
 begins_blank Count n rest none = refl
 begins_blank Fill n rest none = refl
 begins_blank Chip n rest none = refl
@@ -83,7 +82,7 @@ unfolding read_by word_start word_end
 form_read kind form n one two three =
     let last : List ℕ = spelled_as form.value n.value ++ [] in
     let later : List ℕ = spelled_as form.channel n.channel ++ last in
-    let ends_last : lead Letter last ≡ 0 = begins_blank form.value n.value [] refl in
+    let ends_last : lead is_letter last ≡ 0 = begins_blank form.value n.value [] refl in
     let first = argument_read form.chip n.chip later one (begins_blank form.channel n.channel last ends_last) in
     let second = argument_read form.channel n.channel last two ends_last in
     let third = argument_read form.value n.value [] three refl in

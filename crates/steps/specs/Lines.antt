@@ -1,8 +1,6 @@
 -- What a line of an event list says.
-use Rattle.std.specs.Prelude.{Option, Some, None, Ok, Err}
-use Rattle.std.specs.Prelude.{Bool, true, false, cond, not, ◌&&◌, ◌||◌, List, ℕ, ◌+◌, ◌-◌, eqb, ltb, length, get_or, take, drop}
-use Rattle.event.specs.Numbers.{listed}
-use Rattle.event.specs.Numbers.{Listed}
+use Rattle.std.specs.Prelude.{Option, Some, None, Ok, Err, Bool, true, false, cond, not, ◌&&◌, ◌||◌, List, ℕ, ◌+◌, ◌-◌, eqb, ltb, length, get_or, take, drop}
+use Rattle.event.specs.Numbers.{listed, Listed}
 use Rattle.text.specs.Words.{word, behind, word_at, decimal_in, hex_in, word_start, word_end}
 use Rattle.steps.specs.Kinds.{kind_of, form_of, argument_number}
 use Rattle.steps.specs.declared.Argument.{Argument}
@@ -14,12 +12,12 @@ use Rattle.steps.specs.declared.Step.{Step}
 use Rattle.steps.specs.declared.Step.TheVariants.{Nothing, Start, Happens, Malformed}
 
 -- bytes are hex; other numbers decimal; what a step does not take is 0
-abbrev pub value_of : Argument → List ℕ → Number
+abbrev pub value_of : Argument → List ℕ → Option ℕ
 value_of Count found = decimal_in found
 value_of Fill found = hex_in found
 value_of Chip found = decimal_in found
 value_of Code found = hex_in found
-value_of Ok (Some found) = hex_in found
+value_of Byte found = hex_in found
 value_of Channel found = decimal_in found
 value_of Level found = decimal_in found
 value_of End found = Some 0
@@ -57,7 +55,7 @@ abbrev pub end_place : Form → ℕ
 end_place form = value_place form + words form.value
 
 -- of the three arguments and the end behind them, the first that is wrong is what was expected, at its place
-unfoldable pub step_from : ℕ → Number → Number → Number → Bool → Step
+unfoldable pub step_from : ℕ → Option ℕ → Option ℕ → Option ℕ → Bool → Step
 step_from kind None channel value over = Malformed (Wanted kind (form_of kind).chip) 1
 step_from kind (Some a) None value over = Malformed (Wanted kind (form_of kind).channel) (channel_place (form_of kind))
 step_from kind (Some a) (Some b) None over = Malformed (Wanted kind (form_of kind).value) (value_place (form_of kind))

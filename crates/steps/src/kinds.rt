@@ -1,5 +1,5 @@
 // The steps' names, and the arguments that each step takes.
-ghost use Rattle.std.specs.Prelude.{◌≡◌};
+ghost use Rattle.std.specs.Prelude.{◌≡◌, Some, None, cond};
 ghost use Rattle.steps.specs.Kinds.{name_of, kind_of, is_name, in_capitals, form_of, argument_number};
 ghost use Rattle.text.specs.Written.{written};
 
@@ -18,11 +18,13 @@ pub const KINDS: u8 = 9;
 // The names, each in the line of its kind.
 const NAMES: [u8; 52] = *b"start\ncommand\ndata\nstatus\nread\nline\nenable\nfall\nrise";
 
-// The kind of the step that a word names; the number of kinds where it names none.
-pub(crate) fn kind_of(word: &[u8]) -> u8
-    ensures { result ≡ kind_of word.now }
+// The kind of the step that a word names, if it names one.
+#[tactic(auto, unfolding(crate::specs::Kinds::kind_of))]
+pub(crate) fn kind_of(word: &[u8]) -> Option<u8>
+    ensures { result ≡ cond (is_name word.now) (Some (kind_of word.now)) None }
 {
-    place_in(&NAMES, KINDS, word)
+    let kind = place_in(&NAMES, KINDS, word);
+    if kind < KINDS { Some(kind) } else { None }
 }
 
 // Whether a word is no name, but would be one in small letters.
@@ -37,10 +39,11 @@ pub fn in_capitals(word: &[u8]) -> bool
 fn is_name(word: &[u8]) -> bool
     ensures { result ≡ is_name word.now }
 {
-    kind_of(word) < KINDS
+    kind_of(word).is_some()
 }
 
 // A step's name.
+#[tactic(auto, unfolding(crate::specs::Kinds::name_of))]
 pub fn put_name(to: &mut [u8], at: usize, kind: u8) -> usize
     ensures { (to.new, result) ≡ written (to.old, at) (name_of kind) }
 {
@@ -55,8 +58,7 @@ pub fn form_of(kind: u8) -> Form
         0 => taking(Argument::Count, Argument::End, Argument::Fill),
         1 => taking(Argument::Chip, Argument::End, Argument::Code),
         2 => taking(Argument::Chip, Argument::End, Argument::Byte),
-        3 => taking(Argument::Chip, Argument::End, Argument::End),
-        4 => taking(Argument::Chip, Argument::End, Argument::End),
+        3 | 4 => taking(Argument::Chip, Argument::End, Argument::End),
         5 => taking(Argument::Chip, Argument::Channel, Argument::Level),
         6 => taking(Argument::End, Argument::End, Argument::Level),
         _ => taking(Argument::End, Argument::End, Argument::End),
@@ -67,9 +69,9 @@ fn taking(chip: Argument, channel: Argument, value: Argument) -> Form
     ensures { result ≡ record { chip = chip; channel = channel; value = value } }
 {
     Form {
-        chip: chip,
-        channel: channel,
-        value: value,
+        chip,
+        channel,
+        value,
     }
 }
 
@@ -78,15 +80,6 @@ impl Argument {
     pub fn number(self) -> u8
         ensures { result ≡ argument_number self }
     {
-        match self {
-            Argument::Count => 0,
-            Argument::Fill => 1,
-            Argument::Chip => 2,
-            Argument::Code => 3,
-            Argument::Byte => 4,
-            Argument::Channel => 5,
-            Argument::Level => 6,
-            Argument::End => 7,
-        }
+        self as u8
     }
 }

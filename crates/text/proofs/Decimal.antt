@@ -1,49 +1,36 @@
--- A number's digits, put down from the last to the first.
+-- A number's digits in the library's words.
 -- Assumes nothing.
-use mathlib.Core.Bool.{cond}
-use mathlib.Core.List.{List, [], ◌∷◌, ◌++◌}
-use mathlib.Core.Path.{◌≡◌, refl, sym, ap, ap₂, ◌∙◌}
-use Prim.Native.Nat.{ℕ, zero, suc, ◌+◌, ◌-◌, ◌/◌, ◌%◌, ◌≤◌, ◌<◌}
-use native.Mathlib.Nat.{le_of_eq}
-use native.Mathlib.Omega.{arith}
+use Rattle.std.proofs.Common.{◌≡◌, ℕ, zero, suc, ◌+◌, ◌^◌, ◌/◌, ◌%◌, ◌<◌, ◌≤◌, cond, List, [], ◌∷◌, ◌++◌, ◌⊎◌, inl, inr, sym, refl, ap, ◌∙◌, arith, pow-suc}
+use Rattle.std.proofs.lemmas.Bool.{cases_lt}
+use Rattle.std.proofs.lemmas.Fmt.{decimal_digit, decimal_step}
+use Rattle.std.specs.Fmt.{decimal as Fmt·decimal}
 use borrow.Author.Tests.{ne_eqb}
-use lib.ListN.{length, set, take, drop, length-set, length-drop, drop_of_length-le}
-use lib.Seq.{take_all, drop-cons, drop-set-lt, get_or-set_same, append_snoc}
 use Rattle.text.specs.Written.{digits, decimal}
 
--- a digit put down, and what stands behind it
-put_down : (ds : List ℕ) (j d : ℕ) → j < length ds → drop j (set ds j d) ≡ d ∷ drop (suc j) ds
-put_down ds j d h =
-    drop-cons (set ds j d) j 0 (omega (arith, length-set ds j d, h))
-    ∙ ap₂ (λ x xs. x ∷ xs) (get_or-set_same ds j d 0 h) (drop-set-lt (suc j) ds j d (omega arith))
+-- no digits of zero
+no_digits : (k n : ℕ) → n ≡ 0 → digits k n ≡ []
+no_digits zero n is = refl
+no_digits (suc k) n is = ap (digits (suc k)) is
 
--- the last digit, at the end of twenty places
-pub last_digit : (ds : List ℕ) (n : ℕ) → length ds ≡ 20 → digits 19 (n / 10) ++ drop 19 (set ds 19 (48 + n % 10)) ≡ decimal n
+-- the last digit, behind those that a number has before it
+last_digit : (before : List ℕ) (n : ℕ) → (n < 10 → before ≡ []) → (10 ≤ n → before ≡ Fmt·decimal (n / 10)) → n < 2 ^ 64 → before ++ ((48 + n % 10) ∷ []) ≡ Fmt·decimal n
+last_digit before n few more fits = either (cases_lt n 10)
+  where
+    either : (n < 10) ⊎ (10 ≤ n) → before ++ ((48 + n % 10) ∷ []) ≡ Fmt·decimal n
+    either (inl h) =
+        let same : n % 10 ≡ n = omega arith in
+        ap (λ ds. ds ++ ((48 + n % 10) ∷ [])) (few h) ∙ ap (λ (d : ℕ). (48 + d) ∷ []) same ∙ sym (decimal_digit n h)
+    either (inr h) = ap (λ ds. ds ++ ((48 + n % 10) ∷ [])) (more h) ∙ sym (decimal_step n h fits)
+
+-- as many digits as a number may have are its digits
+digits_is : (k n : ℕ) → 0 < n → n < 10 ^ k → n < 2 ^ 64 → digits k n ≡ Fmt·decimal n
+digits_is zero n some most fits = absurd (omega arith)
+digits_is (suc k) n some most fits =
+    ap (λ t. cond t [] (digits k (n / 10) ++ ((48 + n % 10) ∷ []))) (ne_eqb n 0 (λ is. omega (arith, is, some)))
+    ∙ last_digit (digits k (n / 10)) n (λ h. no_digits k (n / 10) (omega (arith, h)))
+    (λ h. digits_is k (n / 10) (omega (arith, h)) (omega (arith, most, pow-suc 10 k)) (omega (arith, fits))) fits
+
+pub decimal_is : (n : ℕ) → n < 2 ^ 64 → decimal n ≡ Fmt·decimal n
 unfolding decimal
-last_digit ds n is =
-    ap (λ end. digits 19 (n / 10) ++ end)
-    (put_down ds 19 (48 + n % 10) (omega (arith, is)) ∙ ap (λ end. (48 + n % 10) ∷ end) (drop_of_length-le ds (le_of_eq is)))
-
--- the digit before those that stand there already
-pub digit-before :
-    (ds : List ℕ) (first n : ℕ)
-    → 0 < first
-    → 0 < n
-    → first ≤ length ds
-    → digits first n ++ drop first ds ≡ digits (first - 1) (n / 10) ++ drop (first - 1) (set ds (first - 1) (48 + n % 10))
-digit-before ds zero n some more room = absurd (omega (arith, some))
-digit-before ds (suc j) n some more room =
-    let before : j ≡ suc j - 1 = omega arith in
-    ap (λ t. cond t [] (digits j (n / 10) ++ ((48 + n % 10) ∷ [])) ++ drop (suc j) ds) (ne_eqb n 0 (λ is. omega (arith, is, more)))
-    ∙ append_snoc (digits j (n / 10)) (48 + n % 10) (drop (suc j) ds)
-    ∙ ap (λ end. digits j (n / 10) ++ end) (sym (put_down ds j (48 + n % 10) (omega (arith, room))))
-    ∙ ap (λ (k : ℕ). digits k (n / 10) ++ drop k (set ds k (48 + n % 10))) before
-
--- before the first place there is none, and none before the first digit
-pub no_digit_before : (first n : ℕ) → n ≡ 0 → digits first n ≡ []
-no_digit_before zero n is = refl
-no_digit_before (suc j) n is = ap (digits (suc j)) is
-
--- what stands from a place to the end
-pub from_on : (ds : List ℕ) (n first : ℕ) → length ds ≡ n → take (n - first) (drop first ds) ≡ drop first ds
-from_on ds n first is = take_all (n - first) (drop first ds) (omega (arith, length-drop first ds, is))
+decimal_is n fits =
+    last_digit (digits 19 (n / 10)) n (λ h. no_digits 19 (n / 10) (omega (arith, h))) (λ h. digits_is 19 (n / 10) (omega (arith, h)) (omega (arith, fits)) (omega (arith, fits))) fits

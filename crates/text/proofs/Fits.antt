@@ -1,33 +1,24 @@
 -- A text for which there is room is written whole, and can be taken out again; and how long a number's text may be.
 -- Assumes nothing.
 use mathlib.Core.Bool.{Bool, true, false, cond}
-use mathlib.Core.List.{List, [], ◌∷◌, ◌++◌, append_assoc}
-use mathlib.Core.Path.{◌≡◌, refl, sym, ap, ap₂, ◌∙◌}
+use mathlib.Core.List.{List, [], ◌∷◌, ◌++◌}
+use mathlib.Core.Path.{◌≡◌, refl, ap, ap₂, ◌∙◌}
 use Prim.Native.Nat.{ℕ, zero, suc, ◌+◌, ◌*◌, ◌/◌, ◌%◌, ◌≤◌}
 use Prim.Native.String.{String}
 use native.Mathlib.Nat.{zero-add, le_refl}
 use native.Mathlib.Omega.{arith}
-use borrow.Author.Tests.{lt-ltb}
 use lib.Dec.{eqb}
-use lib.ListN.{length, set, take, drop, length-append}
-use lib.Seq.{set-append_seam, append_snoc, take_at}
+use lib.ListN.{length, take, drop, length-append}
+use lib.Seq.{take_at, take_all}
 use Rattle.text.specs.Fits.{Fits}
+use Rattle.text.proofs.Written.{put_there}
 use Rattle.text.specs.Written.{text, written, digits, decimal, hex_byte, joined, field, byte_field}
 
--- behind what stands there already
-behind : (p rest new : List ℕ) → length new ≤ length rest → written (p ++ rest, length p) new ≡ (p ++ new ++ drop (length new) rest, length p + length new)
-unfolding written
-behind p rest [] h = ap₂ (λ l (n : ℕ). (l, n)) (sym (append_assoc p [] rest)) (omega arith)
-behind p [] (b ∷ bs) h = absurd (omega (arith, h))
-behind p (x ∷ xs) (b ∷ bs) h =
-    ap (λ t. written (cond t (set (p ++ x ∷ xs) (length p) b, length p + 1) (p ++ x ∷ xs, length p)) bs)
-    (lt-ltb (length p) (length (p ++ x ∷ xs)) (omega (arith, length-append p (x ∷ xs))))
-    ∙ ap₂ (λ l (n : ℕ). written (l, n) bs) (set-append_seam p x xs b ∙ sym (append_snoc p b xs)) (sym (length-append p (b ∷ [])))
-    ∙ behind (p ++ (b ∷ [])) xs bs (omega (arith, h))
-    ∙ ap₂ (λ l (n : ℕ). (l, n)) (ap (λ l. l ++ drop (length bs) xs) (append_snoc p b bs)) (omega (arith, length-append p (b ∷ [])))
-
 pub fits : Fits
-fits = record { whole = λ old new h. behind [] old new h ∙ ap (λ (n : ℕ). (new ++ drop (length new) old, n)) (zero-add (length new)) }
+fits =
+    record {
+      whole = λ old new h. put_there [] old new (length new) (omega (arith, h)) ∙ ap₂ (λ l (n : ℕ). (l ++ drop (length new) old, n)) (take_all (length new) new (le_refl (length new))) (zero-add (length new));
+    }
 
 -- so what was written can be taken out again
 pub written_out : (old new after : List ℕ) (n : ℕ) → length new ≤ length old → ◌≡◌ {A = List ℕ × ℕ} (after, n) (written (old, 0) new) → (n ≡ length new) × (take n after ≡ new)

@@ -13,9 +13,7 @@ use Rattle.bits.proofs.Below.{both_left, both_right, every_each}
 use Rattle.bits.specs.Below.{every}
 use Rattle.text.specs.Words.{is_blank, is_letter, lead, word_start, word_end, word, decimal_in, hex_in}
 use Rattle.text.specs.Written.{decimal, hex_byte}
-use Rattle.text.specs.declared.Number.{Number}
-use Rattle.text.specs.declared.Number.TheVariants.{Value, Wrong}
-use Rattle.text.specs.declared.Sort.TheVariants.{Blank, Letter}
+use Rattle.std.specs.Prelude.{Option, Some, None}
 
 -- each byte of a text passes a test
 abbrev pub each : (ℕ → Bool) → List ℕ → Bool
@@ -39,10 +37,10 @@ plain_byte c = is_letter c && not (eqb c 13)
 abbrev pub plain : List ℕ → Bool
 plain w = ltb 0 (length w) && each plain_byte w
 
-letters : (w rest : List ℕ) → each plain_byte w ≡ true → lead Letter rest ≡ 0 → lead Letter (w ++ rest) ≡ length w
+letters : (w rest : List ℕ) → each plain_byte w ≡ true → lead is_letter rest ≡ 0 → lead is_letter (w ++ rest) ≡ length w
 letters [] rest ok none = none
 letters (c ∷ cs) rest ok none =
-    ap (λ t. cond t (suc (lead Letter (cs ++ rest))) 0) (both_left (is_letter c) (not (eqb c 13)) (both_left (plain_byte c) (each plain_byte cs) ok))
+    ap (λ t. cond t (suc (lead is_letter (cs ++ rest))) 0) (both_left (is_letter c) (not (eqb c 13)) (both_left (plain_byte c) (each plain_byte cs) ok))
     ∙ ap suc (letters cs rest (both_right (plain_byte c) (each plain_byte cs) ok) none)
 
 no_letter_is_blank : (c : ℕ) → is_letter c ≡ true → is_blank c ≡ false
@@ -56,19 +54,19 @@ starts_there : (w rest : List ℕ) → plain w ≡ true → word_start (32 ∷ (
 unfolding word_start
 starts_there [] rest ok = absurd (false≢true ok)
 starts_there (c ∷ cs) rest ok =
-    ap (λ t. suc (cond t (suc (lead Blank (cs ++ rest))) 0))
+    ap (λ t. suc (cond t (suc (lead is_blank (cs ++ rest))) 0))
     (no_letter_is_blank c (both_left (is_letter c) (not (eqb c 13)) (both_left (plain_byte c) (each plain_byte cs) (both_right (ltb 0 (length (c ∷ cs))) (each plain_byte (c ∷ cs)) ok))))
 
-ends_there : (w rest : List ℕ) → plain w ≡ true → lead Letter rest ≡ 0 → word_end (32 ∷ (w ++ rest)) ≡ suc (length w)
+ends_there : (w rest : List ℕ) → plain w ≡ true → lead is_letter rest ≡ 0 → word_end (32 ∷ (w ++ rest)) ≡ suc (length w)
 unfolding word_end
 ends_there w rest ok none =
     let more : 1 + length w ≡ suc (length w) = omega arith in
-    ap (λ (n : ℕ). n + lead Letter (drop n (32 ∷ (w ++ rest)))) (starts_there w rest ok)
+    ap (λ (n : ℕ). n + lead is_letter (drop n (32 ∷ (w ++ rest)))) (starts_there w rest ok)
     ∙ ap (λ (n : ℕ). 1 + n) (letters w rest (both_right (ltb 0 (length w)) (each plain_byte w) ok) none)
     ∙ more
 
 -- a word behind a blank, and what is behind it
-word_back : (w rest : List ℕ) → plain w ≡ true → lead Letter rest ≡ 0 → word (32 ∷ (w ++ rest)) ≡ w
+word_back : (w rest : List ℕ) → plain w ≡ true → lead is_letter rest ≡ 0 → word (32 ∷ (w ++ rest)) ≡ w
 unfolding word
 word_back w rest ok none =
     let long : word_end (32 ∷ (w ++ rest)) - 1 ≡ length w = omega (arith, ends_there w rest ok none) in
@@ -76,26 +74,26 @@ word_back w rest ok none =
     ∙ ap (λ (n : ℕ). take n (w ++ rest)) long
     ∙ take_at w rest (length w) refl
 
-rest_back : (w rest : List ℕ) → plain w ≡ true → lead Letter rest ≡ 0 → drop (word_end (32 ∷ (w ++ rest))) (32 ∷ (w ++ rest)) ≡ rest
+rest_back : (w rest : List ℕ) → plain w ≡ true → lead is_letter rest ≡ 0 → drop (word_end (32 ∷ (w ++ rest))) (32 ∷ (w ++ rest)) ≡ rest
 rest_back w rest ok none = ap (λ (n : ℕ). drop n (32 ∷ (w ++ rest))) (ends_there w rest ok none) ∙ drop_at w rest (length w) refl
 
 -- a number that is written is a plain word that says it; computed for each of the 256
-abbrev gives : Number → ℕ → Bool
-gives (Value value) n = eqb value n
-gives Wrong n = false
+abbrev gives : Option ℕ → ℕ → Bool
+gives (Some value) n = eqb value n
+gives None n = false
 
-gives_it : (x : Number) (n : ℕ) → gives x n ≡ true → x ≡ Value n
-gives_it (Value value) n is = ap Value (eqb-true value n is)
-gives_it Wrong n is = absurd (false≢true is)
+gives_it : (x : Option ℕ) (n : ℕ) → gives x n ≡ true → x ≡ Some n
+gives_it (Some value) n is = ap Some (eqb-true value n is)
+gives_it None n is = absurd (false≢true is)
 
-abbrev reads : (ℕ → List ℕ) → (List ℕ → Number) → ℕ → Bool
+abbrev reads : (ℕ → List ℕ) → (List ℕ → Option ℕ) → ℕ → Bool
 reads write read n = plain (write n) && gives (read (write n)) n
 
 -- so a number that is written is a plain word, and is read
-abbrev pub Back : (ℕ → List ℕ) → (List ℕ → Number) → ℕ → Type 0
-Back write read n = (plain (write n) ≡ true) × (read (write n) ≡ Value n)
+abbrev pub Back : (ℕ → List ℕ) → (List ℕ → Option ℕ) → ℕ → Type 0
+Back write read n = (plain (write n) ≡ true) × (read (write n) ≡ Some n)
 
-back : (write : ℕ → List ℕ) (read : List ℕ → Number) → every 256 (reads write read) ≡ true → (n : ℕ) → n ≤ 255 → Back write read n
+back : (write : ℕ → List ℕ) (read : List ℕ → Option ℕ) → every 256 (reads write read) ≡ true → (n : ℕ) → n ≤ 255 → Back write read n
 back write read each-is n h =
     let ok = every_each 256 (reads write read) each-is n (omega (arith, h)) in
     (both_left (plain (write n)) (gives (read (write n)) n) ok, gives_it (read (write n)) n (both_right (plain (write n)) (gives (read (write n)) n) ok))
@@ -110,9 +108,9 @@ hex_back n h = back hex_byte hex_in refl n h
 
 -- behind a blank, with a rest behind it: the number, and the rest
 pub number_back :
-    (write : ℕ → List ℕ) (read : List ℕ → Number) (n : ℕ) (rest : List ℕ)
+    (write : ℕ → List ℕ) (read : List ℕ → Option ℕ) (n : ℕ) (rest : List ℕ)
     → Back write read n
-    → lead Letter rest ≡ 0
-    → (read (word (32 ∷ (write n ++ rest))) ≡ Value n) × (drop (word_end (32 ∷ (write n ++ rest))) (32 ∷ (write n ++ rest)) ≡ rest)
+    → lead is_letter rest ≡ 0
+    → (read (word (32 ∷ (write n ++ rest))) ≡ Some n) × (drop (word_end (32 ∷ (write n ++ rest))) (32 ∷ (write n ++ rest)) ≡ rest)
 number_back write read n rest is none =
     (ap read (word_back (write n) rest is.0 none) ∙ is.1, rest_back (write n) rest is.0 none)

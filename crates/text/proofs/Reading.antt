@@ -3,83 +3,61 @@
 use mathlib.Core.Bool.{Bool, true, false, cond, ◌&&◌}
 use mathlib.Core.List.{List, [], ◌∷◌}
 use mathlib.Core.Path.{◌≡◌, refl, sym, ap, ap₂, ◌∙◌}
-use Prim.Native.Nat.{ℕ, suc, ◌+◌, ◌-◌, ◌*◌, ◌≤◌, ◌<◌}
+use Prim.Native.Nat.{ℕ, suc, ◌+◌, ◌-◌, ◌*◌, ◌<◌}
 use native.Mathlib.Numerals.{add-one}
 use native.Mathlib.Omega.{arith}
-use borrow.Author.Tests.{leb-true, le-leb, lt-leb, eq-eqb, ne_eqb}
-use lib.Dec.{leb, eqb}
-use lib.ListN.{length, get_or, drop, drop_of_length-le}
+use borrow.Author.Tests.{lt-leb}
+use lib.Dec.{eqb}
+use lib.ListN.{length, get_or, take, drop}
 use lib.Seq.{drop-cons}
-use Rattle.bits.proofs.Below.{both_left, both_right, both_not}
-use Rattle.text.specs.Words.{passes, lead, same, is_digit, decimal_from, decimal_in, two_digits, hex_in}
-use Rattle.text.specs.declared.Number.TheVariants.{Value, Wrong}
-use Rattle.text.specs.declared.Sort.{Sort}
+use Rattle.text.specs.Words.{lead, same, is_digit, decimal_from, decimal_in, two_digits, hex_in}
+use Rattle.std.proofs.lemmas.Bool.Decides.{nat_tests}
+use Rattle.std.specs.List.{prefix_len, take_while}
+use Rattle.std.specs.Prelude.{Option, Some, None}
+use Rattle.std.specs.Str.{bytes_eq}
 
 -- what stands from a place on, where something does
 pub split : (l : List ℕ) (k : ℕ) → k < length l → drop k l ≡ get_or l k 0 ∷ drop (k + 1) l
 split l k h = drop-cons l k 0 h ∙ ap (λ (n : ℕ). get_or l k 0 ∷ drop n l) (sym (add-one k))
 
--- a byte that passes is one more, one that does not is the end, as the end of the text is
-pub lead_more : (sort : Sort) (l : List ℕ) (k : ℕ) → k < length l → passes sort (get_or l k 0) ≡ true → lead sort (drop k l) ≡ lead sort (drop (k + 1) l) + 1
-lead_more sort l k h is =
-    ap (lead sort) (split l k h)
-    ∙ ap (λ t. cond t (suc (lead sort (drop (k + 1) l))) 0) is
-    ∙ sym (add-one (lead sort (drop (k + 1) l)))
+-- the start of a text whose bytes pass a test, and whether two texts are the same, in the library's words
+pub lead_is : (passes : ℕ → Bool) (l : List ℕ) → lead passes l ≡ length (take_while passes l)
+lead_is passes [] = refl
+lead_is passes (c ∷ cs) = either (passes c) (lead_is passes cs)
+  where
+    either : (t : Bool) → lead passes cs ≡ length (take_while passes cs) → cond t (suc (lead passes cs)) 0 ≡ length (take (cond t (1 + prefix_len passes cs) 0) (c ∷ cs))
+    either true is =
+        let more : suc (prefix_len passes cs) ≡ 1 + prefix_len passes cs = omega arith in
+        ap suc is ∙ ap (λ (n : ℕ). length (take n (c ∷ cs))) more
+    either false is = refl
 
-pub lead_stops : (sort : Sort) (l : List ℕ) (k : ℕ) → k < length l → passes sort (get_or l k 0) ≡ false → lead sort (drop k l) ≡ 0
-lead_stops sort l k h is = ap (lead sort) (split l k h) ∙ ap (λ t. cond t (suc (lead sort (drop (k + 1) l))) 0) is
+turned : (c d : ℕ) → eqb c d ≡ eqb d c
+turned c d = grind (arith, nat_tests)
 
-pub lead-ends : (sort : Sort) (l : List ℕ) (k : ℕ) → length l ≤ k → lead sort (drop k l) ≡ 0
-lead-ends sort l k h = ap (lead sort) (drop_of_length-le l h)
-
--- texts of one length are the same if their bytes are
-pub same_more : (a b : List ℕ) (k : ℕ) → k < length a → k < length b → get_or a k 0 ≡ get_or b k 0 → same (drop k a) (drop k b) ≡ same (drop (k + 1) a) (drop (k + 1) b)
-same_more a b k h g is =
-    ap₂ same (split a k h) (split b k g) ∙ ap (λ t. t && same (drop (k + 1) a) (drop (k + 1) b)) (eq-eqb (get_or a k 0) (get_or b k 0) is)
-
-pub same_differs : (a b : List ℕ) (k : ℕ) → k < length a → k < length b → (get_or a k 0 ≡ get_or b k 0 → ⊥) → same (drop k a) (drop k b) ≡ false
-same_differs a b k h g is =
-    ap₂ same (split a k h) (split b k g) ∙ ap (λ t. t && same (drop (k + 1) a) (drop (k + 1) b)) (ne_eqb (get_or a k 0) (get_or b k 0) is)
-
-pub same_ends : (a b : List ℕ) (k : ℕ) → length a ≤ k → length b ≤ k → same (drop k a) (drop k b) ≡ true
-same_ends a b k h g = ap₂ same (drop_of_length-le a h) (drop_of_length-le b g)
-
-pub same_lengths : (a b : List ℕ) → (length a ≡ length b → ⊥) → same a b ≡ false
-same_lengths [] [] h = absurd (h refl)
-same_lengths [] (d ∷ ds) h = refl
-same_lengths (c ∷ cs) [] h = refl
-same_lengths (c ∷ cs) (d ∷ ds) h =
-    both_not (eqb c d) (same cs ds) (same_lengths cs ds (λ is. h (ap suc is)))
-
--- a digit is 48 to 57
-pub digit_is : (c : ℕ) → is_digit c ≡ true → (48 ≤ c) × (c ≤ 57)
-digit_is c is = (leb-true 48 c (both_left (leb 48 c) (leb c 57) is), leb-true c 57 (both_right (leb 48 c) (leb c 57) is))
-
--- decimal: a digit more
-pub decimal_more : (value : ℕ) (l : List ℕ) (k : ℕ) → k < length l → is_digit (get_or l k 0) ≡ true → decimal_from value (drop k l) ≡ decimal_from (10 * value + (get_or l k 0 - 48)) (drop (k + 1) l)
-decimal_more value l k h is =
-    ap (decimal_from value) (split l k h) ∙ ap (λ t. cond t (decimal_from (10 * value + (get_or l k 0 - 48)) (drop (k + 1) l)) Wrong) is
-
--- a byte that is no digit
-pub decimal_other : (value : ℕ) (l : List ℕ) (k : ℕ) → k < length l → is_digit (get_or l k 0) ≡ false → decimal_from value (drop k l) ≡ Wrong
-decimal_other value l k h is =
-    ap (decimal_from value) (split l k h) ∙ ap (λ t. cond t (decimal_from (10 * value + (get_or l k 0 - 48)) (drop (k + 1) l)) Wrong) is
+pub same_is : (a b : List ℕ) → same a b ≡ bytes_eq b a
+same_is [] [] = refl
+same_is [] (d ∷ ds) = refl
+same_is (c ∷ cs) [] = refl
+same_is (c ∷ cs) (d ∷ ds) = ap₂ (λ t u. t && u) (turned c d) (same_is cs ds)
 
 -- a value above 255 stays above, whatever follows
-pub decimal_above : (value : ℕ) (l : List ℕ) → 255 < value → decimal_from value l ≡ Wrong
-decimal_above value [] h = ap (λ t. cond t (Value value) Wrong) (lt-leb value 255 h)
+either_none : (t : Bool) → cond {A = Option ℕ} t None None ≡ None
+either_none true = refl
+either_none false = refl
+
+decimal_above : (value : ℕ) (l : List ℕ) → 255 < value → decimal_from value l ≡ None
+decimal_above value [] h = ap (λ t. cond t (Some value) None) (lt-leb value 255 h)
 decimal_above value (c ∷ cs) h =
-    ap (λ n. cond (is_digit c) n Wrong) (decimal_above (10 * value + (c - 48)) cs (omega arith)) ∙ either (is_digit c)
-  where
-    either : (t : Bool) → cond t Wrong Wrong ≡ Wrong
-    either true = refl
-    either false = refl
+    ap (λ n. cond (is_digit c) n None) (decimal_above (10 * value + (c - 48)) cs (omega arith)) ∙ either_none (is_digit c)
 
-pub decimal-ends : (value : ℕ) (l : List ℕ) (k : ℕ) → length l ≤ k → value ≤ 255 → decimal_from value (drop k l) ≡ Value value
-decimal-ends value l k h is =
-    ap (decimal_from value) (drop_of_length-le l h) ∙ ap (λ t. cond t (Value value) Wrong) (le-leb value 255 is)
+-- so a digit that brings it there makes it no number
+pub decimal_over : (value : ℕ) (l : List ℕ) (k : ℕ) → k < length l → 255 < 10 * value + (get_or l k 0 - 48) → decimal_from value (drop k l) ≡ None
+decimal_over value l k more h =
+    ap (decimal_from value) (split l k more)
+    ∙ ap (λ n. cond (is_digit (get_or l k 0)) n None) (decimal_above (10 * value + (get_or l k 0 - 48)) (drop (k + 1) l) h)
+    ∙ either_none (is_digit (get_or l k 0))
 
-pub decimal_none : (l : List ℕ) → length l ≡ 0 → decimal_in l ≡ Wrong
+pub decimal_none : (l : List ℕ) → length l ≡ 0 → decimal_in l ≡ None
 unfolding decimal_in
 decimal_none [] is = refl
 decimal_none (c ∷ cs) is = absurd (omega (arith, is))
@@ -103,7 +81,7 @@ hex_two (c ∷ []) is = absurd (omega (arith, is))
 hex_two (c ∷ d ∷ []) is = refl
 hex_two (c ∷ d ∷ e ∷ more) is = absurd (omega (arith, is))
 
-pub hex_other : (l : List ℕ) → (length l ≡ 1 → ⊥) → (length l ≡ 2 → ⊥) → hex_in l ≡ Wrong
+pub hex_other : (l : List ℕ) → (length l ≡ 1 → ⊥) → (length l ≡ 2 → ⊥) → hex_in l ≡ None
 unfolding hex_in
 hex_other [] one two = refl
 hex_other (c ∷ []) one two = absurd (one refl)

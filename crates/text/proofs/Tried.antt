@@ -4,7 +4,7 @@ use mathlib.Core.List.{[], ◌∷◌}
 use mathlib.Core.Path.{◌≡◌, refl}
 use Rattle.text.specs.Words.{line_end, word_start, word_end, word, behind, decimal_in, hex_in}
 use Rattle.text.specs.Written.{text, written, decimal, hex_byte}
-use Rattle.text.specs.declared.Number.TheVariants.{Value, Wrong}
+use Rattle.std.specs.Prelude.{Some, None}
 
 -- numbers written: no zeros in front, and all digits of the largest of 64 bits
 numbers_written :
@@ -34,14 +34,14 @@ words_read = (refl, refl, refl, refl)
 
 -- numbers read
 numbers_read :
-    (decimal_in (text "255") ≡ Value 255)
-    × (decimal_in (text "0007") ≡ Value 7)
-    × (decimal_in (text "256") ≡ Wrong)
-    × (decimal_in (text "7F") ≡ Wrong)
-    × (decimal_in [] ≡ Wrong)
-    × (hex_in (text "a5") ≡ Value 0xA5)
-    × (hex_in (text "F") ≡ Value 0x0F)
-    × (hex_in (text "100") ≡ Wrong)
-    × (hex_in (text "G0") ≡ Wrong)
+    (decimal_in (text "255") ≡ Some 255)
+    × (decimal_in (text "0007") ≡ Some 7)
+    × (decimal_in (text "256") ≡ None)
+    × (decimal_in (text "7F") ≡ None)
+    × (decimal_in [] ≡ None)
+    × (hex_in (text "a5") ≡ Some 0xA5)
+    × (hex_in (text "F") ≡ Some 0x0F)
+    × (hex_in (text "100") ≡ None)
+    × (hex_in (text "G0") ≡ None)
 unfolding decimal_in hex_in
 numbers_read = (refl, refl, refl, refl, refl, refl, refl, refl, refl)

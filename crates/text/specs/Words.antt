@@ -1,9 +1,5 @@
 -- The lines of a text, the words of a line, and the numbers that words say.
-use Rattle.std.specs.Prelude.{Bool, true, false, cond, ◌&&◌, ◌||◌, not, List, [], ◌∷◌, ℕ, zero, suc, ◌+◌, ◌-◌, ◌*◌, leb, eqb, length, take, drop}
-use Rattle.text.specs.declared.Number.{Number}
-use Rattle.text.specs.declared.Number.TheVariants.{Value, Wrong}
-use Rattle.text.specs.declared.Sort.{Sort}
-use Rattle.text.specs.declared.Sort.TheVariants.{Blank, Letter, Inside}
+use Rattle.std.specs.Prelude.{Bool, true, false, cond, ◌&&◌, ◌||◌, not, Option, Some, None, List, [], ◌∷◌, ℕ, zero, suc, ◌+◌, ◌-◌, ◌*◌, leb, eqb, length, take, drop}
 
 -- blanks are the space and the tab
 abbrev pub is_blank : ℕ → Bool
@@ -13,27 +9,25 @@ is_blank c = eqb c 32 || eqb c 9
 abbrev pub is_letter : ℕ → Bool
 is_letter c = not (is_blank c || eqb c 35)
 
--- the bytes that are looked for: blanks, letters of a word, or those inside a line, which are all but the line feed (10)
-abbrev pub passes : Sort → ℕ → Bool
-passes Blank c = is_blank c
-passes Letter c = is_letter c
-passes Inside c = not (eqb c 10)
+-- and any byte stands inside a line, but for the line feed (10)
+abbrev pub is_inside : ℕ → Bool
+is_inside c = not (eqb c 10)
 
--- how many bytes at the start of a text are of a sort
-abbrev pub lead : Sort → List ℕ → ℕ
-lead sort [] = 0
-lead sort (c ∷ cs) = cond (passes sort c) (suc (lead sort cs)) 0
+-- how many bytes at the start of a text pass a test
+abbrev pub lead : (ℕ → Bool) → List ℕ → ℕ
+lead passes [] = 0
+lead passes (c ∷ cs) = cond (passes c) (suc (lead passes cs)) 0
 
 -- where the first line of a text ends
 unfoldable pub line_end : List ℕ → ℕ
-line_end text = lead Inside text
+line_end text = lead is_inside text
 
 -- where the first word of a line begins, and where it ends; both at one place if there is no word
 unfoldable pub word_start : List ℕ → ℕ
-word_start line = lead Blank line
+word_start line = lead is_blank line
 
 unfoldable pub word_end : List ℕ → ℕ
-word_end line = word_start line + lead Letter (drop (word_start line) line)
+word_end line = word_start line + lead is_letter (drop (word_start line) line)
 
 -- the first word, and the rest of the line behind it
 unfoldable pub word : List ℕ → List ℕ
@@ -62,26 +56,32 @@ begins beginning text = same (take (length beginning) text) beginning
 abbrev pub is_digit : ℕ → Bool
 is_digit c = leb 48 c && leb c 57
 
--- decimal: a digit behind others makes ten of their value and adds its own; a byte that is no digit, and a value above 255, are wrong
-abbrev pub decimal_from : ℕ → List ℕ → Number
-decimal_from value [] = cond (leb value 255) (Value value) Wrong
-decimal_from value (c ∷ cs) = cond (is_digit c) (decimal_from (10 * value + (c - 48)) cs) Wrong
+-- decimal: a digit behind others makes ten of their value and adds its own; a byte that is no digit, and a value above 255, make it no number
+abbrev pub decimal_from : ℕ → List ℕ → Option ℕ
+decimal_from value [] = cond (leb value 255) (Some value) None
+decimal_from value (c ∷ cs) = cond (is_digit c) (decimal_from (10 * value + (c - 48)) cs) None
 
-unfoldable pub decimal_in : List ℕ → Number
-decimal_in [] = Wrong
+unfoldable pub decimal_in : List ℕ → Option ℕ
+decimal_in [] = None
 decimal_in (c ∷ cs) = decimal_from 0 (c ∷ cs)
 
--- the value of a hex digit in either case; 16 if it is none
-abbrev pub hex_value : ℕ → ℕ
+-- the value of a hex digit in either case
+abbrev pub hex_value : ℕ → Option ℕ
 hex_value c =
-    cond (is_digit c) (c - 48) (cond (leb 65 c && leb c 70) (c - 55) (cond (leb 97 c && leb c 102) (c - 87) 16))
+    cond (is_digit c) (Some (c - 48)) (cond (leb 65 c && leb c 70) (Some (c - 55)) (cond (leb 97 c && leb c 102) (Some (c - 87)) None))
 
-abbrev pub two_digits : ℕ → ℕ → Number
-two_digits high low = cond (leb (hex_value high) 15 && leb (hex_value low) 15) (Value (16 * hex_value high + hex_value low)) Wrong
+-- the value of two digits, if each is one
+abbrev pub together : Option ℕ → Option ℕ → Option ℕ
+together (Some high) (Some low) = Some (16 * high + low)
+together (Some high) None = None
+together None low = None
+
+abbrev pub two_digits : ℕ → ℕ → Option ℕ
+two_digits high low = together (hex_value high) (hex_value low)
 
 -- hex: two digits, or one, as if `0` (48) stood before it
-unfoldable pub hex_in : List ℕ → Number
-hex_in [] = Wrong
+unfoldable pub hex_in : List ℕ → Option ℕ
+hex_in [] = None
 hex_in (c ∷ []) = two_digits 48 c
 hex_in (c ∷ d ∷ []) = two_digits c d
-hex_in (c ∷ d ∷ e ∷ more) = Wrong
+hex_in (c ∷ d ∷ e ∷ more) = None

@@ -8,24 +8,9 @@ pub mod put;
 pub mod tables;
 pub mod words;
 
-// What a word says that should be a number of eight bits.
-#[derive(Clone, Copy)]
-pub enum Number {
-    Value(u8),
-    Wrong,
-}
-
 // Another form of a byte: one that can be shown to people, or in small letters.
 #[derive(Clone, Copy)]
 pub enum Way {
     Shown,
     Small,
-}
-
-// Bytes that stand together: blanks, the letters of a word, or what is inside a line.
-#[derive(Clone, Copy)]
-pub enum Sort {
-    Blank,
-    Letter,
-    Inside,
 }

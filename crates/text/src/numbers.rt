@@ -2,71 +2,55 @@
 ghost use Rattle.std.specs.Prelude.{◌≡◌};
 ghost use Rattle.text.specs.Words.{is_digit, decimal_in, hex_value, two_digits, hex_in};
 
-use crate::Number;
-
 fn is_digit(c: u8) -> bool
     ensures { result ≡ is_digit c }
 {
-    (48 <= c) & (c <= 57)
+    matches!(c, b'0'..=b'9')
 }
 
 // What a word says in decimal.
-pub fn decimal_in(word: &[u8]) -> Number
+#[tactic(auto, using(crate::proofs::Reading::decimal_none, crate::proofs::Reading::decimal_some, crate::proofs::Reading::decimal_over))]
+pub fn decimal_in(word: &[u8]) -> Option<u8>
     ensures { result ≡ decimal_in word.now }
 {
-    if word.len() == 0 {
-        return Number::Wrong;
+    if word.is_empty() {
+        return None;
     }
-    let mut value = 0u16;
-    for k in 0usize..word.len() {
-        let c = word[k];
-        if !is_digit(c) {
-            return Number::Wrong;
+    let mut value = 0u8;
+    for c in word {
+        if !is_digit(*c) {
+            return None;
         }
-        value = 10 * value + (c - 48) as u16;
-        if value > 255 {
-            return Number::Wrong;
-        }
+        value = value.checked_mul(10)?.checked_add(*c - b'0')?;
     }
-    Number::Value(value as u8)
+    Some(value)
 }
 
 // What a word says in hex.
-pub fn hex_in(word: &[u8]) -> Number
+#[tactic(auto, using(crate::proofs::Reading::hex_one, crate::proofs::Reading::hex_two, crate::proofs::Reading::hex_other))]
+pub fn hex_in(word: &[u8]) -> Option<u8>
     ensures { result ≡ hex_in word.now }
 {
-    if word.len() == 1 {
-        return two_digits(48, word[0]);
+    match word {
+        [digit] => two_digits(b'0', *digit),
+        [high, low] => two_digits(*high, *low),
+        _ => None,
     }
-    if word.len() == 2 {
-        return two_digits(word[0], word[1]);
-    }
-    Number::Wrong
 }
 
-fn two_digits(high: u8, low: u8) -> Number
+fn two_digits(high: u8, low: u8) -> Option<u8>
     ensures { result ≡ two_digits high low }
 {
-    let upper = hex_value(high);
-    let lower = hex_value(low);
-    if (upper <= 15) & (lower <= 15) {
-        Number::Value(16 * upper + lower)
-    } else {
-        Number::Wrong
-    }
+    Some(16 * hex_value(high)? + hex_value(low)?)
 }
 
-// The value of a hex digit, or 16.
-fn hex_value(c: u8) -> u8
+fn hex_value(c: u8) -> Option<u8>
     ensures { result ≡ hex_value c }
 {
-    if is_digit(c) {
-        c - 48
-    } else if (65 <= c) & (c <= 70) {
-        c - 55
-    } else if (97 <= c) & (c <= 102) {
-        c - 87
-    } else {
-        16
+    match c {
+        b'0'..=b'9' => Some(c - b'0'),
+        b'A'..=b'F' => Some(c - b'A' + 10),
+        b'a'..=b'f' => Some(c - b'a' + 10),
+        _ => None,
     }
 }

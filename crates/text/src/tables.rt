@@ -1,22 +1,21 @@
 // Tables of names: a text whose lines are the names, counted from 0. So a name stands in one place, whether it is read or written.
-ghost use Rattle.std.specs.Prelude.{◌≡◌, ◌≤◌, length, drop};
+ghost use Rattle.std.specs.Prelude.{◌≡◌};
 ghost use Rattle.text.specs.Tables.{behind_line, line_in, place_in};
 ghost use Rattle.text.specs.Written.{written};
 
-use crate::Sort;
 use crate::put::put;
-use crate::words::{past, same};
+use crate::words::line_end;
 
 // Line k of a text; nothing where the text has fewer lines.
+#[tactic(auto, using(crate::proofs::Places::line_more))]
 pub fn line_in(text: &[u8], k: u8) -> &[u8]
     ensures { result.now ≡ line_in k text.now }
 {
-    let mut at = 0usize;
-    for i in 0u8..k {
-        at = next_line(text, at);
+    let mut rest = text;
+    for _ in 0..k {
+        rest = behind_line(rest);
     }
-    let end = past(text, at, Sort::Inside);
-    &text[at..end]
+    &rest[..line_end(rest)]
 }
 
 // Line k of a text, written.
@@ -26,24 +25,19 @@ pub fn put_line(to: &mut [u8], at: usize, text: &[u8], k: u8) -> usize
     put(to, at, line_in(text, k))
 }
 
-// Where the line behind the one at a place begins.
-fn next_line(text: &[u8], at: usize) -> usize
-    requires { at ≤ length text.now }
-    ensures upper_bound { result ≤ length text.now }
-    ensures text_value { drop result text.now ≡ behind_line (drop at text.now) }
+// What stands behind the first line of a text and its line feed.
+fn behind_line(text: &[u8]) -> &[u8]
+    ensures { result.now ≡ behind_line text.now }
 {
-    let end = past(text, at, Sort::Inside);
-    if end < text.len() { end + 1 } else { end }
+    text.get(line_end(text) + 1..).unwrap_or(&[])
 }
 
 // Of so many lines the first that a word is; the number of them if it is none.
+// That number and no Option: steps::kinds::kind_of has as many kinds, and that one for a word that is none.
 pub fn place_in(table: &[u8], lines: u8, word: &[u8]) -> u8
     ensures { result ≡ place_in table.now lines word.now }
 {
-    for k in 0u8..lines {
-        if same(word, line_in(table, k)) {
-            return k;
-        }
-    }
-    lines
+    (0..lines)
+        .find(|k| line_in(table, *k) == word)
+        .unwrap_or(lines)
 }

@@ -7,7 +7,7 @@ ghost use Rattle.views.specs.Views.{table_of, picture_of, no_table, no_picture, 
 
 use chain::Chain;
 use decide::tests::chip_verdict;
-use refusal::{Refusal, Verdict};
+use refusal::{Refusal, Verdict, is_accepted};
 
 // The table of a chip's registers.
 #[derive(Clone, Copy)]
@@ -52,15 +52,12 @@ pub fn register_view(chain: Chain, chip: u8) -> RegisterView
     ensures { result ≡ register_view chip chain }
 {
     let verdict = view_verdict(chain, chip);
-    let table = if verdict.is_accepted() {
+    let table = if is_accepted(verdict) {
         table(chain, chip)
     } else {
         no_table()
     };
-    RegisterView {
-        verdict: verdict,
-        table: table,
-    }
+    RegisterView { verdict, table }
 }
 
 // The pin view of a chip.
@@ -68,15 +65,12 @@ pub fn pin_view(chain: Chain, chip: u8) -> PinView
     ensures { result ≡ pin_view chip chain }
 {
     let verdict = view_verdict(chain, chip);
-    let picture = if verdict.is_accepted() {
+    let picture = if is_accepted(verdict) {
         picture(chain, chip)
     } else {
         no_picture()
     };
-    PinView {
-        verdict: verdict,
-        picture: picture,
-    }
+    PinView { verdict, picture }
 }
 
 // A view names a chip, so it takes refusals 1 and 2.
@@ -84,7 +78,7 @@ fn view_verdict(chain: Chain, i: u8) -> Verdict
     ensures { result ≡ view_verdict i chain }
 {
     if !chain.is_sound() {
-        return Verdict::Refused(Refusal::NotSound);
+        return Err(Refusal::NotSound);
     }
     chip_verdict(chain.count, i)
 }
@@ -94,8 +88,6 @@ fn table(chain: Chain, i: u8) -> Registers
     ensures { result ≡ table_of i chain }
 {
     let chip = chain.chip_at(i);
-    let status = chip.status(chain.ei(i));
-    let waiting = chip.waiting();
     Registers {
         event: chain.event,
         irr: chip.irr,
@@ -103,8 +95,8 @@ fn table(chain: Chain, i: u8) -> Registers
         imr: chip.imr,
         acr: chip.acr,
         mode: chip.mode,
-        status: status,
-        waiting: waiting,
+        status: chip.status(chain.ei(i)),
+        waiting: chip.waiting(),
     }
 }
 
@@ -129,17 +121,13 @@ fn picture(chain: Chain, i: u8) -> Pins
 {
     let chip = chain.chip_at(i);
     let ei = chain.ei(i);
-    let eo = chain.eo_at(ei, i);
-    let gint = chip.gint();
-    let rip = chain.rip();
-    let pause = chain.pause();
     Pins {
         event: chain.event,
         ei: bits::digit_of(ei),
-        eo: bits::digit_of(eo),
-        gint: gint,
-        rip: bits::digit_of(rip),
-        pause: bits::digit_of(pause),
+        eo: bits::digit_of(chain.eo_at(ei, i)),
+        gint: chip.gint(),
+        rip: bits::digit_of(chain.rip()),
+        pause: bits::digit_of(chain.pause()),
         iack: bits::digit_of(chain.iack),
     }
 }

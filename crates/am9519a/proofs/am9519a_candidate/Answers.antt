@@ -9,4 +9,4 @@ returns-then-pointer-gt7 c = simp (lt-ltb 7 _ c.if-pointer-gt7.true)
 
 pub returns : goal.returns
 unfolding search_number
-returns c = simp (c.number.ensures, c.candidate_of.ensures, le-ltb 7 _ c.if-pointer-gt7.false)
+returns c = simp (c.candidate_number.ensures, c.candidate_of.ensures, le-ltb 7 _ c.if-pointer-gt7.false)

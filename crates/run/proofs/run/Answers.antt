@@ -18,7 +18,7 @@ returns-then-not-is_accepted c =
     let ended : run_of c.args.chain c.args.bytes.now c.args.limit c.args.results.now ≡ stopped c.before_any-verdict.result 0 c.args.chain c.args.results.now =
     refused_before c.args.chain c.args.bytes.now c.args.limit c.args.results.now c.before_any-verdict.result c.before_any-verdict.ensures (sym c.is_accepted.ensures ∙ c.if-not-is_accepted.true) in
     record {
-      value = c.stopped.ensures ∙ sym (ap (λ r. r.ran) ended);
+      value = sym (ap (λ r. r.ran) ended);
       results_after = sym (ap (λ r. r.results) ended);
     }
 
@@ -48,6 +48,6 @@ returns c =
     let is : stopped c.run_in-reached.result.verdict c.run_in-reached.result.accepted (chain_in c.run_in-reached.new.image) c.run_in-reached.new.results ≡ run_of c.args.chain c.args.bytes.now c.args.limit c.args.results.now =
     c.run_in-reached.ensures.results_after ∙ ap (λ s. run_of s c.args.bytes.now c.args.limit c.args.results.now) same in
     record {
-      value = c.stopped-2.ensures ∙ ap (λ chain. record { verdict = c.run_in-reached.result.verdict; accepted = c.run_in-reached.result.accepted; chain = chain }) c.chain_in.ensures ∙ ap (λ r. r.ran) is;
+      value = ap (λ chain. record { verdict = c.run_in-reached.result.verdict; accepted = c.run_in-reached.result.accepted; chain = chain }) c.chain_in.ensures ∙ ap (λ r. r.ran) is;
       results_after = ap (λ r. r.results) is;
     }

@@ -12,4 +12,4 @@ returns-then-is_image c = simp (c.chain_in.ensures, ← c.is_image.ensures, c.if
 
 pub returns-else-is_image : goal.returns-else-is_image
 unfolding start_of
-returns-else-is_image c = simp (c.start-none.ensures, ← c.is_image.ensures, c.if-is_image.false)
+returns-else-is_image c = simp (c.start.ensures, ← c.is_image.ensures, c.if-is_image.false)

@@ -7,7 +7,7 @@ pub returns-then-not-is_accepted : goal.returns-then-not-is_accepted
 returns-then-not-is_accepted c =
     let told = view_refused c.args.verdict c.args.bytes.now c.args.view.now (sym c.is_accepted.ensures ∙ c.if-not-is_accepted.true) in
     record {
-      value = c.number.ensures ∙ sym (ap (λ r. r.number) told);
+      value = c.verdict_number.ensures ∙ sym (ap (λ r. r.number) told);
       view_after = sym (ap (λ r. r.buffer) told);
     }
 
@@ -15,7 +15,7 @@ pub returns-then-view-bytes : goal.returns-then-view-bytes
 returns-then-view-bytes c =
     let told = view_short c.args.verdict c.args.bytes.now c.args.view.now (sym c.is_accepted.ensures ∙ c.if-not-is_accepted.false) c.if-view-bytes.true in
     record {
-      value = sym (ap (λ r. r.number) told);
+      value = c.number.ensures ∙ sym (ap (λ r. r.number) told);
       view_after = sym (ap (λ r. r.buffer) told);
     }
 

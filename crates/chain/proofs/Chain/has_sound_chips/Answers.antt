@@ -13,16 +13,10 @@ loop-i-init c = (omega arith, below_none _)
 
 pub returns-then-not-is_sound : goal.returns-then-not-is_sound
 unfolding chips_sound
-returns-then-not-is_sound c = sym (every-not c.args.self.count (λ k. chip_sound (chip_at c.args.self k)) c.loop-i.i c.loop-i-test.true (ap chip_sound (sym c.chip_at-chip.ensures) ∙ sym c.is_sound.ensures ∙ c.if-not-is_sound.true))
-
-pub overflow_step-i : goal.overflow_step-i
-overflow_step-i c = omega arith
-
-pub loop-i-smaller : goal.loop-i-smaller
-loop-i-smaller c = omega arith
+returns-then-not-is_sound c = sym (every-not c.args.self.count (λ k. chip_sound (chip_at c.args.self k)) c.loop-i.i c.loop-i-test.true (ap chip_sound (sym c.chip_at.ensures) ∙ sym c.is_sound.ensures ∙ c.if-not-is_sound.true))
 
 pub loop-i-preserved : goal.loop-i-preserved
-loop-i-preserved c = (omega arith, below_more _ _ c.loop-i.invariant.1 (ap chip_sound (sym c.chip_at-chip.ensures) ∙ sym c.is_sound.ensures ∙ c.if-not-is_sound.false))
+loop-i-preserved c = (omega arith, below_more _ _ c.loop-i.invariant.1 (ap chip_sound (sym c.chip_at.ensures) ∙ sym c.is_sound.ensures ∙ c.if-not-is_sound.false))
 
 pub returns : goal.returns
 unfolding chips_sound

@@ -10,11 +10,11 @@ use Rattle.chain.proofs.Chain.on_sound.Goals as goal
 pub change-requires : goal.change-requires
 change-requires c = record {
   sound_seen = seen_asked c.args.e c.args.self _ (c.seen-seen.ensures ∙ ap (λ (look : Look). seen_in look c.args.self) c.of.ensures) c.requires;
-  accepted_event = sym c.verdict-judged.ensures ∙ c.in-Ok.is;
+  accepted_event = sym c.verdict.ensures ∙ c.in-Ok.is;
 }
 
 pub returns-in-Ok : goal.returns-in-Ok
-returns-in-Ok c = c.accepted.ensures ∙ ap (λ (d : Change). accepted d c.args.self) c.change.ensures ∙ sym (is_accepted_lem c.args.e c.args.self _ (c.seen-seen.ensures ∙ ap (λ (look : Look). seen_in look c.args.self) c.of.ensures) c.requires (sym c.verdict-judged.ensures ∙ c.in-Ok.is))
+returns-in-Ok c = c.accepted.ensures ∙ ap (λ (d : Change). accepted d c.args.self) c.change.ensures ∙ sym (is_accepted_lem c.args.e c.args.self _ (c.seen-seen.ensures ∙ ap (λ (look : Look). seen_in look c.args.self) c.of.ensures) c.requires (sym c.verdict.ensures ∙ c.in-Ok.is))
 
 pub returns-in-Err : goal.returns-in-Err
-returns-in-Err c = c.refused.ensures ∙ sym (is_refused c.args.e c.args.self _ _ (c.seen-seen.ensures ∙ ap (λ (look : Look). seen_in look c.args.self) c.of.ensures) c.requires (sym c.verdict-judged.ensures ∙ c.in-Err.is))
+returns-in-Err c = c.refused.ensures ∙ sym (is_refused c.args.e c.args.self _ _ (c.seen-seen.ensures ∙ ap (λ (look : Look). seen_in look c.args.self) c.of.ensures) c.requires (sym c.verdict.ensures ∙ c.in-Err.is))

@@ -8,20 +8,14 @@ use Rattle.chain.proofs.Chain.walked.Goals as goal
 
 pub loop-i-init : goal.loop-i-init
 unfolding walked_to ei
-loop-i-init c = (omega arith, refl, c.at_first-walk.ensures)
+loop-i-init c = (omega arith, c.at_first-walk.ensures)
 
 pub past-walk-requires : goal.past-walk-requires
 unfolding walked_to
-past-walk-requires c = rw c.loop-i.invariant.2 (omega arith)
-
-pub overflow_step-i : goal.overflow_step-i
-overflow_step-i c = omega arith
-
-pub loop-i-smaller : goal.loop-i-smaller
-loop-i-smaller c = omega arith
+past-walk-requires c = rw c.loop-i.invariant.1 (omega arith)
 
 pub loop-i-preserved : goal.loop-i-preserved
-loop-i-preserved c = (omega arith, c.loop-i.invariant.1, c.past-walk.ensures ∙ again c.args.self c.loop-i.i c.chip_at.ensures c.loop-i.invariant.1 c.loop-i.invariant.2)
+loop-i-preserved c = (omega arith, c.past-walk.ensures ∙ again c.args.self c.loop-i.i c.chip_at.ensures refl c.loop-i.invariant.1)
 
 pub returns : goal.returns
-returns c = let at-end : c.loop-i.i ≡ c.args.to = omega arith in c.loop-i.invariant.2 ∙ ap (walked_to c.args.self) at-end
+returns c = let at-end : c.loop-i.i ≡ c.args.to = omega arith in c.loop-i.invariant.1 ∙ ap (walked_to c.args.self) at-end

@@ -11,31 +11,23 @@ use Rattle.in_place.proofs.events.data_write.Goals as goal
 
 pub data_write-requires : goal.data_write-requires
 unfolding chain_in
-data_write-requires c = seen_chip c.seen_round-seen.result (enough (Data c.args.i c.args.byte) (chain_in c.args.image.now) c.seen_round-seen.result c.seen_round-seen.ensures c.requires.chain_sound).sound_seen (passed_names (Data c.args.i c.args.byte) c.seen_round-seen.result refl (sym c.data_verdict-judged.ensures ∙ c.in-Ok.is))
+data_write-requires c = seen_chip c.seen_round-seen.result (enough (Data c.args.i c.args.byte) (chain_in c.args.image.now) c.seen_round-seen.result c.seen_round-seen.ensures c.requires.chain_sound).sound_seen (passed_names (Data c.args.i c.args.byte) c.seen_round-seen.result refl (sym c.data_verdict.ensures ∙ c.in_ok-data_verdict.was))
 
 pub accept-requires : goal.accept-requires
 unfolding chain_in
 accept-requires c = record {
   image_form = c.requires.image_form;
-  at_bound = lands (Data c.args.i c.args.byte) (chain_in c.args.image.now) _ _ c.seen_round-seen.ensures c.requires.chain_sound (sym c.data_verdict-judged.ensures ∙ c.in-Ok.is) c.data_write.ensures;
+  at_bound = lands (Data c.args.i c.args.byte) (chain_in c.args.image.now) _ _ c.seen_round-seen.ensures c.requires.chain_sound (sym c.data_verdict.ensures ∙ c.in_ok-data_verdict.was) c.data_write.ensures;
 }
 
-pub returns-in-Ok : goal.returns-in-Ok
+pub returns : goal.returns
 unfolding chain_in
-returns-in-Ok c =
-    let is = does (Data c.args.i c.args.byte) (chain_in c.args.image.now) _ _ c.seen_round-seen.ensures c.requires.chain_sound (sym c.data_verdict-judged.ensures ∙ c.in-Ok.is) c.data_write.ensures in
-    record {
-      value = c.accept.ensures.value ∙ ap (λ (o : Outcome). o.answer) is;
-      form_after = c.accept.ensures.form_after;
-      chain_after = c.accept.ensures.chain_after ∙ ap (λ (o : Outcome). o.chain) is;
-    }
+returns c =
+    let done = does (Data c.args.i c.args.byte) (chain_in c.args.image.now) _ _ _ _ c.seen_round-seen.ensures c.requires.chain_sound (sym c.data_verdict.ensures ∙ c.in_ok-data_verdict.was) c.data_write.ensures c.accept.ensures.value c.accept.ensures.chain_after in
+    record { value = done.0; form_after = c.accept.ensures.form_after; chain_after = done.1 }
 
-pub returns-in-Err : goal.returns-in-Err
-unfolding chain_in refused
-returns-in-Err c =
-    let is = declines (Data c.args.i c.args.byte) (chain_in c.args.image.now) _ _ c.seen_round-seen.ensures c.requires.chain_sound (sym c.data_verdict-judged.ensures ∙ c.in-Err.is) in
-    record {
-      value = ap (λ (o : Outcome). o.answer) is;
-      form_after = c.requires.image_form;
-      chain_after = ap (λ (o : Outcome). o.chain) is;
-    }
+pub returns-in_err-data_verdict : goal.returns-in_err-data_verdict
+unfolding chain_in
+returns-in_err-data_verdict c =
+    let declined = declines (Data c.args.i c.args.byte) (chain_in c.args.image.now) _ _ _ c.seen_round-seen.ensures c.requires.chain_sound (sym c.data_verdict.ensures ∙ c.in_err-data_verdict.was) c.from_residual.ensures.1 in
+    record { value = declined.0; form_after = c.requires.image_form; chain_after = declined.1 }

@@ -16,25 +16,17 @@ pub accept-requires : goal.accept-requires
 unfolding chain_in
 accept-requires c = record {
   image_form = c.requires.image_form;
-  at_bound = lands (Enable c.args.level) (chain_in c.args.image.now) _ _ c.seen_round-seen.ensures c.requires.chain_sound (sym c.level_verdict-judged.ensures ∙ c.in-Ok.is) c.enable.ensures;
+  at_bound = lands (Enable c.args.level) (chain_in c.args.image.now) _ _ c.seen_round-seen.ensures c.requires.chain_sound (sym c.level_verdict.ensures ∙ c.in_ok-level_verdict.was) c.enable.ensures;
 }
 
-pub returns-in-Ok : goal.returns-in-Ok
+pub returns : goal.returns
 unfolding chain_in
-returns-in-Ok c =
-    let is = does (Enable c.args.level) (chain_in c.args.image.now) _ _ c.seen_round-seen.ensures c.requires.chain_sound (sym c.level_verdict-judged.ensures ∙ c.in-Ok.is) c.enable.ensures in
-    record {
-      value = c.accept.ensures.value ∙ ap (λ (o : Outcome). o.answer) is;
-      form_after = c.accept.ensures.form_after;
-      chain_after = c.accept.ensures.chain_after ∙ ap (λ (o : Outcome). o.chain) is;
-    }
+returns c =
+    let done = does (Enable c.args.level) (chain_in c.args.image.now) _ _ _ _ c.seen_round-seen.ensures c.requires.chain_sound (sym c.level_verdict.ensures ∙ c.in_ok-level_verdict.was) c.enable.ensures c.accept.ensures.value c.accept.ensures.chain_after in
+    record { value = done.0; form_after = c.accept.ensures.form_after; chain_after = done.1 }
 
-pub returns-in-Err : goal.returns-in-Err
-unfolding chain_in refused
-returns-in-Err c =
-    let is = declines (Enable c.args.level) (chain_in c.args.image.now) _ _ c.seen_round-seen.ensures c.requires.chain_sound (sym c.level_verdict-judged.ensures ∙ c.in-Err.is) in
-    record {
-      value = ap (λ (o : Outcome). o.answer) is;
-      form_after = c.requires.image_form;
-      chain_after = ap (λ (o : Outcome). o.chain) is;
-    }
+pub returns-in_err-level_verdict : goal.returns-in_err-level_verdict
+unfolding chain_in
+returns-in_err-level_verdict c =
+    let declined = declines (Enable c.args.level) (chain_in c.args.image.now) _ _ _ c.seen_round-seen.ensures c.requires.chain_sound (sym c.level_verdict.ensures ∙ c.in_err-level_verdict.was) c.from_residual.ensures.1 in
+    record { value = declined.0; form_after = c.requires.image_form; chain_after = declined.1 }

@@ -11,25 +11,17 @@ pub accept-requires : goal.accept-requires
 unfolding chain_in
 accept-requires c = record {
   image_form = c.requires.image_form;
-  at_bound = lands (Read c.args.i) (chain_in c.args.image.now) _ _ c.seen_round-seen.ensures c.requires.chain_sound (sym c.bus_verdict-judged.ensures ∙ c.in-Ok.is) c.read.ensures;
+  at_bound = lands (Read c.args.i) (chain_in c.args.image.now) _ _ c.seen_round-seen.ensures c.requires.chain_sound (sym c.bus_verdict.ensures ∙ c.in_ok-bus_verdict.was) c.read.ensures;
 }
 
-pub returns-in-Ok : goal.returns-in-Ok
+pub returns : goal.returns
 unfolding chain_in
-returns-in-Ok c =
-    let is = does (Read c.args.i) (chain_in c.args.image.now) _ _ c.seen_round-seen.ensures c.requires.chain_sound (sym c.bus_verdict-judged.ensures ∙ c.in-Ok.is) c.read.ensures in
-    record {
-      value = c.accept.ensures.value ∙ ap (λ (o : Outcome). o.answer) is;
-      form_after = c.accept.ensures.form_after;
-      chain_after = c.accept.ensures.chain_after ∙ ap (λ (o : Outcome). o.chain) is;
-    }
+returns c =
+    let done = does (Read c.args.i) (chain_in c.args.image.now) _ _ _ _ c.seen_round-seen.ensures c.requires.chain_sound (sym c.bus_verdict.ensures ∙ c.in_ok-bus_verdict.was) c.read.ensures c.accept.ensures.value c.accept.ensures.chain_after in
+    record { value = done.0; form_after = c.accept.ensures.form_after; chain_after = done.1 }
 
-pub returns-in-Err : goal.returns-in-Err
-unfolding chain_in refused
-returns-in-Err c =
-    let is = declines (Read c.args.i) (chain_in c.args.image.now) _ _ c.seen_round-seen.ensures c.requires.chain_sound (sym c.bus_verdict-judged.ensures ∙ c.in-Err.is) in
-    record {
-      value = ap (λ (o : Outcome). o.answer) is;
-      form_after = c.requires.image_form;
-      chain_after = ap (λ (o : Outcome). o.chain) is;
-    }
+pub returns-in_err-bus_verdict : goal.returns-in_err-bus_verdict
+unfolding chain_in
+returns-in_err-bus_verdict c =
+    let declined = declines (Read c.args.i) (chain_in c.args.image.now) _ _ _ c.seen_round-seen.ensures c.requires.chain_sound (sym c.bus_verdict.ensures ∙ c.in_err-bus_verdict.was) c.from_residual.ensures.1 in
+    record { value = declined.0; form_after = c.requires.image_form; chain_after = declined.1 }

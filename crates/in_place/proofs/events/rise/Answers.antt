@@ -23,25 +23,17 @@ pub accept-requires : goal.accept-requires
 unfolding chain_in
 accept-requires c = record {
   image_form = c.requires.image_form;
-  at_bound = lands Rise (chain_in c.args.image.now) _ _ (c.seen_round-seen.ensures ∙ ap₂ (λ (at : ℕ) (ei : Bool). seen_round at ei (chain_in c.args.image.now)) (c.looked_at-at.ensures ∙ ap (λ (look : Look). looked_at look (chain_in c.args.image.now)) (c.of.ensures ∙ ap (look_of Rise) c.response_in.ensures)) (sym (no_ei Nowhere (chain_in c.args.image.now).response (chain_in c.args.image.now) refl))) c.requires.chain_sound (sym c.rise_verdict-judged.ensures ∙ c.in-Ok.is) c.rise.ensures;
+  at_bound = lands Rise (chain_in c.args.image.now) _ _ (c.seen_round-seen.ensures ∙ ap₂ (λ (at : ℕ) (ei : Bool). seen_round at ei (chain_in c.args.image.now)) (c.looked_at-at.ensures ∙ ap (λ (look : Look). looked_at look (chain_in c.args.image.now)) (c.of.ensures ∙ ap (look_of Rise) c.response_in.ensures)) (sym (no_ei Nowhere (chain_in c.args.image.now).response (chain_in c.args.image.now) refl))) c.requires.chain_sound (sym c.rise_verdict.ensures ∙ c.in_ok-rise_verdict.was) c.rise.ensures;
 }
 
-pub returns-in-Ok : goal.returns-in-Ok
+pub returns : goal.returns
 unfolding chain_in
-returns-in-Ok c =
-    let is = does Rise (chain_in c.args.image.now) _ _ (c.seen_round-seen.ensures ∙ ap₂ (λ (at : ℕ) (ei : Bool). seen_round at ei (chain_in c.args.image.now)) (c.looked_at-at.ensures ∙ ap (λ (look : Look). looked_at look (chain_in c.args.image.now)) (c.of.ensures ∙ ap (look_of Rise) c.response_in.ensures)) (sym (no_ei Nowhere (chain_in c.args.image.now).response (chain_in c.args.image.now) refl))) c.requires.chain_sound (sym c.rise_verdict-judged.ensures ∙ c.in-Ok.is) c.rise.ensures in
-    record {
-      value = c.accept.ensures.value ∙ ap (λ (o : Outcome). o.answer) is;
-      form_after = c.accept.ensures.form_after;
-      chain_after = c.accept.ensures.chain_after ∙ ap (λ (o : Outcome). o.chain) is;
-    }
+returns c =
+    let done = does Rise (chain_in c.args.image.now) _ _ _ _ (c.seen_round-seen.ensures ∙ ap₂ (λ (at : ℕ) (ei : Bool). seen_round at ei (chain_in c.args.image.now)) (c.looked_at-at.ensures ∙ ap (λ (look : Look). looked_at look (chain_in c.args.image.now)) (c.of.ensures ∙ ap (look_of Rise) c.response_in.ensures)) (sym (no_ei Nowhere (chain_in c.args.image.now).response (chain_in c.args.image.now) refl))) c.requires.chain_sound (sym c.rise_verdict.ensures ∙ c.in_ok-rise_verdict.was) c.rise.ensures c.accept.ensures.value c.accept.ensures.chain_after in
+    record { value = done.0; form_after = c.accept.ensures.form_after; chain_after = done.1 }
 
-pub returns-in-Err : goal.returns-in-Err
-unfolding chain_in refused
-returns-in-Err c =
-    let is = declines Rise (chain_in c.args.image.now) _ _ (c.seen_round-seen.ensures ∙ ap₂ (λ (at : ℕ) (ei : Bool). seen_round at ei (chain_in c.args.image.now)) (c.looked_at-at.ensures ∙ ap (λ (look : Look). looked_at look (chain_in c.args.image.now)) (c.of.ensures ∙ ap (look_of Rise) c.response_in.ensures)) (sym (no_ei Nowhere (chain_in c.args.image.now).response (chain_in c.args.image.now) refl))) c.requires.chain_sound (sym c.rise_verdict-judged.ensures ∙ c.in-Err.is) in
-    record {
-      value = ap (λ (o : Outcome). o.answer) is;
-      form_after = c.requires.image_form;
-      chain_after = ap (λ (o : Outcome). o.chain) is;
-    }
+pub returns-in_err-rise_verdict : goal.returns-in_err-rise_verdict
+unfolding chain_in
+returns-in_err-rise_verdict c =
+    let declined = declines Rise (chain_in c.args.image.now) _ _ _ (c.seen_round-seen.ensures ∙ ap₂ (λ (at : ℕ) (ei : Bool). seen_round at ei (chain_in c.args.image.now)) (c.looked_at-at.ensures ∙ ap (λ (look : Look). looked_at look (chain_in c.args.image.now)) (c.of.ensures ∙ ap (look_of Rise) c.response_in.ensures)) (sym (no_ei Nowhere (chain_in c.args.image.now).response (chain_in c.args.image.now) refl))) c.requires.chain_sound (sym c.rise_verdict.ensures ∙ c.in_err-rise_verdict.was) c.from_residual.ensures.1 in
+    record { value = declined.0; form_after = c.requires.image_form; chain_after = declined.1 }

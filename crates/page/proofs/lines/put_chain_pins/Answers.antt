@@ -1,8 +1,7 @@
 -- `page::lines::put_chain_pins` meets its contract.
-use mathlib.Core.Path.{◌∙◌}
-use Rattle.text.proofs.Written.{again, all-written}
+use Rattle.text.proofs.Written.{all-written}
 use Rattle.page.specs.Page.{chain_pins}
 use Rattle.page.proofs.lines.put_chain_pins.Goals as goal
 
 pub returns : goal.returns
-returns c = c.put_field.ensures ∙ again _ (c.put_field-next-2.ensures ∙ again _ c.put_field-next.ensures) ∙ all-written (c.args.to.now, c.args.at) (chain_pins c.args.pins)
+returns c = cc (all-written (c.args.to.now, c.args.at) (chain_pins c.args.pins))

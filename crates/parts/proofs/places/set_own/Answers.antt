@@ -25,7 +25,7 @@ pub returns : goal.returns
 returns c =
     let b : List ℕ = c.args.image.now in
     let held = own_set b c.args.enable c.args.iack c.args.response c.requires in
-    let put : c.put_bytes.new.to ≡ over b 5 (response_bytes c.args.response) = c.put_bytes.ensures ∙ ap (over b 5) c.response_bytes-bytes.ensures in
+    let put : c.put_bytes.new.to ≡ over b 5 (response_bytes c.args.response) = c.put_bytes.ensures ∙ ap (over b 5) c.response_bytes.ensures in
     let levels = ap₂ (λ (e i : ℕ). set (set c.put_bytes.new.to 1 e) 2 i) c.digit_of.ensures.value c.digit_of-2.ensures.value in
     let written = levels ∙ ap (λ (l : List ℕ). set (set l 1 (digit c.args.enable)) 2 (digit c.args.iack)) put in
     record {

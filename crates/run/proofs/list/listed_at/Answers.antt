@@ -4,4 +4,4 @@ use Rattle.run.proofs.list.listed_at.Goals as goal
 
 pub returns : goal.returns
 unfolding listed_at
-returns c = c.of.ensures
+returns c = c.try_from.ensures

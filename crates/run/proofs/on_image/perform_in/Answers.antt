@@ -1,4 +1,5 @@
 -- `run::on_image::perform_in` meets its contract.
+use Rattle.std.specs.Prelude.{Ok}
 use mathlib.Core.Bool.{true, false}
 use mathlib.Core.List.{List}
 use mathlib.Core.Path.{◌≡◌, refl, sym, ap, ap₂, ◌∙◌}
@@ -31,36 +32,29 @@ step_in-answer-requires c = record {
   chain_sound = c.loop-n.invariant.2;
 }
 
-pub shape_of-image-then-not-is_accepted : goal.shape_of-image-then-not-is_accepted
-shape_of-image-then-not-is_accepted c = image_length c.step_in-answer.new.image c.step_in-answer.ensures.form_after ∙ sym (image_length c.args.image.now c.requires.image_form)
+pub shape_of-image-in-Err : goal.shape_of-image-in-Err
+shape_of-image-in-Err c = image_length c.step_in-answer.new.image c.step_in-answer.ensures.form_after ∙ sym (image_length c.args.image.now c.requires.image_form)
 
-pub shape_of-results-then-not-is_accepted : goal.shape_of-results-then-not-is_accepted
-shape_of-results-then-not-is_accepted c = c.loop-n.invariant.3
+pub shape_of-results-in-Err : goal.shape_of-results-in-Err
+shape_of-results-in-Err c = c.loop-n.invariant.3
 
-pub returns-then-not-is_accepted : goal.returns-then-not-is_accepted
-returns-then-not-is_accepted c =
+pub returns-in-Err : goal.returns-in-Err
+returns-in-Err c =
     let bytes : List ℕ = c.args.bytes.now in
     let n : ℕ = c.loop-n.n in
     let s : Chain = chain_in c.loop-n.image in
     let o : Outcome = listed_outcome (listed_at bytes n) s in
     let answered : c.step_in-answer.result ≡ o.answer = c.step_in-answer.ensures.value ∙ ap (λ l. (listed_outcome l s).answer) c.listed_at.ensures in
     let left : chain_in c.step_in-answer.new.image ≡ o.chain = c.step_in-answer.ensures.chain_after ∙ ap (λ l. (listed_outcome l s).chain) c.listed_at.ensures in
-    let told : is_accepted (verdict_in o.answer) ≡ c.is_accepted.result = ap (λ a. is_accepted (verdict_in a)) (sym answered) ∙ ap is_accepted (sym c.verdict-verdict.ensures) ∙ sym c.is_accepted.ensures in
-    let off : is_accepted (verdict_in o.answer) ≡ false = told ∙ c.if-not-is_accepted.true in
+    let off : is_accepted (verdict_in o.answer) ≡ false = ap (λ a. is_accepted (verdict_in a)) (sym answered ∙ c.in-Err.is) in
     let ended : run_from c.args.count bytes 0 (chain_in c.args.image.now) c.args.results.now ≡ stopped (verdict_in o.answer) n s c.loop-n.results =
     c.loop-n.invariant.4 ∙ stops (c.args.count - n) (c.args.count - (n + 1)) bytes n s c.loop-n.results o (omega arith) refl off in record {
       form_after = c.step_in-answer.ensures.form_after;
-      results_after = ap₂ (λ v t. stopped v n t c.loop-n.results) (c.verdict-verdict.ensures ∙ ap verdict_in answered) (left ∙ step_same (listed_at bytes n) s off) ∙ sym ended;
+      results_after = ap₂ (λ v t. stopped v n t c.loop-n.results) (ap verdict_in (sym c.in-Err.is ∙ answered)) (left ∙ step_same (listed_at bytes n) s off) ∙ sym ended;
     }
 
 pub note-requires : goal.note-requires
 note-requires c = omega (arith, c.requires.room_in_bounds, c.loop-n.invariant.3)
-
-pub overflow_add-n : goal.overflow_add-n
-overflow_add-n c = omega (arith, c.requires.count_in_bounds)
-
-pub loop-n-smaller : goal.loop-n-smaller
-loop-n-smaller c = omega arith
 
 pub loop-n-preserved : goal.loop-n-preserved
 loop-n-preserved c =
@@ -70,8 +64,7 @@ loop-n-preserved c =
     let o : Outcome = listed_outcome (listed_at bytes n) s in
     let answered : c.step_in-answer.result ≡ o.answer = c.step_in-answer.ensures.value ∙ ap (λ l. (listed_outcome l s).answer) c.listed_at.ensures in
     let left : chain_in c.step_in-answer.new.image ≡ o.chain = c.step_in-answer.ensures.chain_after ∙ ap (λ l. (listed_outcome l s).chain) c.listed_at.ensures in
-    let told : is_accepted (verdict_in o.answer) ≡ c.is_accepted.result = ap (λ a. is_accepted (verdict_in a)) (sym answered) ∙ ap is_accepted (sym c.verdict-verdict.ensures) ∙ sym c.is_accepted.ensures in
-    let on : is_accepted (verdict_in o.answer) ≡ true = told ∙ c.if-not-is_accepted.false in
+    let on : is_accepted (verdict_in o.answer) ≡ true = ap (λ a. is_accepted (verdict_in a)) (sym answered ∙ c.in-Ok.is) in
     let noted_here : noted n (handed o.answer) c.loop-n.results ≡ c.note.new.results = ap (λ a. noted n (handed a) c.loop-n.results) (sym answered) ∙ sym c.note.ensures in (
       omega arith,
       c.step_in-answer.ensures.form_after,
@@ -93,10 +86,10 @@ unfolding run_from
 returns c =
     let none_left : c.args.count - c.loop-n.n ≡ 0 = omega arith in
     let at-end : c.loop-n.n ≡ c.args.count = omega arith in
-    let ended : run_from c.args.count c.args.bytes.now 0 (chain_in c.args.image.now) c.args.results.now ≡ stopped Verdict.Accepted c.args.count (chain_in c.loop-n.image) c.loop-n.results =
+    let ended : run_from c.args.count c.args.bytes.now 0 (chain_in c.args.image.now) c.args.results.now ≡ stopped (Ok tt) c.args.count (chain_in c.loop-n.image) c.loop-n.results =
     c.loop-n.invariant.4
     ∙ ap (λ left. run_from left c.args.bytes.now c.loop-n.n (chain_in c.loop-n.image) c.loop-n.results) none_left
-    ∙ ap (λ n. stopped Verdict.Accepted n (chain_in c.loop-n.image) c.loop-n.results) at-end in record {
+    ∙ ap (λ n. stopped (Ok tt) n (chain_in c.loop-n.image) c.loop-n.results) at-end in record {
       form_after = c.loop-n.invariant.1;
       results_after = sym ended;
     }

@@ -10,14 +10,14 @@ pub perform_in-requires : goal.perform_in-requires
 perform_in-requires c = record {
   image_form = c.requires.image_form;
   chain_sound = before-sound (chain_in c.args.image.now) c.args.bytes.now c.args.results.now c.requires.results_value;
-  count_in_bounds = omega (arith, c.least.ensures);
-  room_in_bounds = omega (arith, c.least.ensures, before_room (chain_in c.args.image.now) c.args.bytes.now c.args.results.now c.requires.results_value);
+  count_in_bounds = omega (arith, c.min.ensures);
+  room_in_bounds = omega (arith, c.min.ensures, before_room (chain_in c.args.image.now) c.args.bytes.now c.args.results.now c.requires.results_value);
 }
 
 pub returns : goal.returns
 returns c =
-    let is : run_from c.least.result c.args.bytes.now 0 (chain_in c.args.image.now) c.args.results.now ≡ run_of (chain_in c.args.image.now) c.args.bytes.now c.args.limit c.args.results.now =
-    ap (λ count. run_from count c.args.bytes.now 0 (chain_in c.args.image.now) c.args.results.now) c.least.ensures
+    let is : run_from c.min.result c.args.bytes.now 0 (chain_in c.args.image.now) c.args.results.now ≡ run_of (chain_in c.args.image.now) c.args.bytes.now c.args.limit c.args.results.now =
+    ap (λ count. run_from count c.args.bytes.now 0 (chain_in c.args.image.now) c.args.results.now) c.min.ensures
     ∙ sym (none_before (chain_in c.args.image.now) c.args.bytes.now c.args.limit c.args.results.now (before_any (chain_in c.args.image.now) c.args.bytes.now c.args.results.now) refl c.requires.results_value) in
     record {
       form_after = c.perform_in.ensures.form_after;

@@ -4,16 +4,16 @@ use Rattle.image.specs.Reading.{chain_in}
 use Rattle.run.specs.Run.{listed_outcome}
 use Rattle.run.proofs.on_image.step_in.Goals as goal
 
-pub returns-in-Known : goal.returns-in-Known
-returns-in-Known c = record {
-  value = c.on.ensures.value ∙ ap (λ l. (listed_outcome l (chain_in c.args.image.now)).answer) (sym c.in-Known.is);
+pub returns-in-Ok : goal.returns-in-Ok
+returns-in-Ok c = record {
+  value = c.on.ensures.value ∙ ap (λ l. (listed_outcome l (chain_in c.args.image.now)).answer) (sym c.in-Ok.is);
   form_after = c.on.ensures.form_after;
-  chain_after = c.on.ensures.chain_after ∙ ap (λ l. (listed_outcome l (chain_in c.args.image.now)).chain) (sym c.in-Known.is);
+  chain_after = c.on.ensures.chain_after ∙ ap (λ l. (listed_outcome l (chain_in c.args.image.now)).chain) (sym c.in-Ok.is);
 }
 
-pub returns-in-Unknown : goal.returns-in-Unknown
-returns-in-Unknown c = record {
-  value = ap (λ l. (listed_outcome l (chain_in c.args.image.now)).answer) (sym c.in-Unknown.is);
+pub returns-in-Err : goal.returns-in-Err
+returns-in-Err c = record {
+  value = ap (λ l. (listed_outcome l (chain_in c.args.image.now)).answer) (sym c.in-Err.is);
   form_after = c.requires.image_form;
-  chain_after = ap (λ l. (listed_outcome l (chain_in c.args.image.now)).chain) (sym c.in-Unknown.is);
+  chain_after = ap (λ l. (listed_outcome l (chain_in c.args.image.now)).chain) (sym c.in-Err.is);
 }

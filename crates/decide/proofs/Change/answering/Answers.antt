@@ -1,8 +1,0 @@
--- `decide::Change::answering` meets its contract.
-use mathlib.Core.Path.{refl}
-use Rattle.decide.proofs.Rules.{changes}
-use Rattle.decide.proofs.Change.answering.Goals as goal
-
-pub returns : goal.returns
-unfolding changes
-returns c = refl
