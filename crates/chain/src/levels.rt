@@ -13,11 +13,7 @@ impl Chain {
     fn walked(self, to: u8) -> Walk
         ensures { result ≡ walked_to self to }
     {
-        let mut walk = Walk::at_first(self.enable);
-        for i in 0..to {
-            walk = walk.past(self.chip_at(i), self.response);
-        }
-        walk
+        Walk::along(self.enable, to, self.response, |i| self.chip_at(i))
     }
 
     // EI of chip 0 is the chain's; EI of another is EO of the chip before.

@@ -25,11 +25,6 @@ impl Chain {
     fn has_sound_chips(self) -> bool
         ensures { result ≡ chips_sound self }
     {
-        for i in 0..self.count {
-            if !self.chip_at(i).is_sound() {
-                return false;
-            }
-        }
-        true
+        (0..self.count).all(|i| self.chip_at(i).is_sound())
     }
 }

@@ -82,16 +82,23 @@ pub fn level_verdict(level: u8) -> Verdict
     refused_if(level > 1, Refusal::NoSuchLevel)
 }
 
+// IACK takes the level at which it is already.
+fn iack_verdict(there: bool) -> Verdict
+    ensures { result ≡ first_of_list (iack_there_already there ∷ []) }
+{
+    refused_if(there, Refusal::IackThereAlready)
+}
+
 // IACK falls: it is low already.
 pub fn fall_verdict(iack: bool) -> Verdict
     ensures { result ≡ first_of_list (iack_there_already (not iack) ∷ []) }
 {
-    refused_if(!iack, Refusal::IackThereAlready)
+    iack_verdict(!iack)
 }
 
 // IACK rises: it is high already.
 pub fn rise_verdict(iack: bool) -> Verdict
     ensures { result ≡ first_of_list (iack_there_already iack ∷ []) }
 {
-    refused_if(iack, Refusal::IackThereAlready)
+    iack_verdict(iack)
 }

@@ -18,11 +18,7 @@ pub fn walked(image: &[u8], to: u8) -> Walk
     ensures { result ≡ walked_to (chain_in image.now) to }
 {
     let response = response_in(image);
-    let mut walk = Walk::at_first(image[ENABLE] == 1);
-    for i in 0..to {
-        walk = walk.past(chip_at(image, i), response);
-    }
-    walk
+    Walk::along(image[ENABLE] == 1, to, response, |i| chip_at(image, i))
 }
 
 // The number of the chip that an event looks at; the count where there is no such chip.

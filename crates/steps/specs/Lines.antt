@@ -78,14 +78,15 @@ read_as kind rest = read_by kind (form_of kind) rest
 
 -- the start stands first, and nowhere else
 abbrev pub may_stand : Bool → ℕ → Bool
-may_stand started kind = ltb kind 9 && (started && not (eqb kind 0) || not started && eqb kind 0)
+may_stand started kind = started && not (eqb kind 0) || not started && eqb kind 0
 
 abbrev pub awaited : Bool → Expected
 awaited false = TheStart
 awaited true = AnEvent
 
-abbrev pub step_named : Bool → ℕ → List ℕ → Step
-step_named started kind rest = cond (may_stand started kind) (read_as kind rest) (Malformed (awaited started) 0)
+abbrev pub step_named : Bool → Option ℕ → List ℕ → Step
+step_named started (Some kind) rest = cond (may_stand started kind) (read_as kind rest) (Malformed (awaited started) 0)
+step_named started None rest = Malformed (awaited started) 0
 
 -- the first word names the step; a line without one says nothing
 unfoldable pub step_in : Bool → List ℕ → Step

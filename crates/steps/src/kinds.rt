@@ -21,10 +21,9 @@ const NAMES: [u8; 52] = *b"start\ncommand\ndata\nstatus\nread\nline\nenable\nfal
 // The kind of the step that a word names, if it names one.
 #[tactic(auto, unfolding(crate::specs::Kinds::kind_of))]
 pub(crate) fn kind_of(word: &[u8]) -> Option<u8>
-    ensures { result ≡ cond (is_name word.now) (Some (kind_of word.now)) None }
+    ensures { result ≡ kind_of word.now }
 {
-    let kind = place_in(&NAMES, KINDS, word);
-    if kind < KINDS { Some(kind) } else { None }
+    place_in(&NAMES, KINDS, word)
 }
 
 // Whether a word is no name, but would be one in small letters.

@@ -81,7 +81,6 @@ fn is_over(line: &[u8]) -> bool
 
 // Whether a step may stand there: the start first, and nowhere else.
 fn may_stand(started: bool, kind: u8) -> bool
-    requires { kind < 9 }
     ensures { result ≡ may_stand started kind }
 {
     started == (kind != START)
