@@ -78,7 +78,7 @@ read_as kind rest = read_by kind (form_of kind) rest
 
 -- the start stands first, and nowhere else
 abbrev pub may_stand : Bool → ℕ → Bool
-may_stand started kind = started && not (eqb kind 0) || not started && eqb kind 0
+may_stand started kind = ltb kind 9 && (started && not (eqb kind 0) || not started && eqb kind 0)
 
 abbrev pub awaited : Bool → Expected
 awaited false = TheStart
