@@ -18,16 +18,13 @@ use Rattle.bits.proofs.Below.{either, both_right, both_not}
 use Rattle.bits.proofs.Stored.{stored}
 use Rattle.refusal.proofs.Numbers.{not_zero, not_both}
 use Rattle.refusal.specs.Answers.{verdict_in, handed}
-use Rattle.refusal.specs.Numbers.{refusal_number, verdict_number, is_accepted}
-use Rattle.refusal.specs.Numbers.{Answer}
-use Rattle.refusal.specs.Numbers.{Verdict}
+use Rattle.refusal.specs.Numbers.{refusal_number, verdict_number, is_accepted, Answer, Verdict}
 use Rattle.event.specs.declared.Event.{Event}
 use Rattle.event.specs.declared.Event.TheVariants.{Command, Data, Status, Read, Line, Enable, Fall, Rise}
 use Rattle.chip.specs.Fields.{zero_chip}
 use Rattle.chip.specs.declared.Chip.{Chip}
-use Rattle.response.specs.Held.{is_idle, is_responding}
+use Rattle.response.specs.Held.{is_idle, is_responding, Response}
 use Rattle.response.specs.declared.Reply.{Reply}
-use Rattle.response.specs.Held.{Response}
 use Rattle.decide.proofs.Answered.{decided_tells}
 use Rattle.decide.proofs.Passed.{passed_names}
 use Rattle.decide.proofs.Soundness.{selected_is}

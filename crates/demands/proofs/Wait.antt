@@ -33,9 +33,8 @@ use Rattle.chip.specs.Fields.{zero_chip}
 use Rattle.figure4.specs.Figure4.{is_reset}
 use Rattle.chip.specs.Status.{is_armed, is_polled, is_rotating, candidate_of, gint_active}
 use Rattle.chip.specs.declared.Chip.{Chip}
-use Rattle.response.specs.Held.{reply_of, is_idle, is_responding}
+use Rattle.response.specs.Held.{reply_of, is_idle, is_responding, Response}
 use Rattle.response.specs.declared.Reply.{Reply}
-use Rattle.response.specs.Held.{Response}
 use Rattle.decide.proofs.Rules.{changes}
 use Rattle.decide.proofs.Soundness.{selected_is}
 use Rattle.decide.specs.Decided.{decided}

@@ -23,11 +23,4 @@ the_told said page =
     ∙ ap (λ (p : List ℕ × ℕ). (record { report = said.report; length = p.1; course = said.course }, p.0)) is.1.1)
 
 pub one_page : OnePage
-one_page =
-    record {
-      new = the_one _;
-      step = λ lent started line. the_one _;
-      page = λ lent to at line step answer s. the_written _;
-      take = λ lent r line page. the_told _ _;
-      take_last = λ lent r line page. the_told _ _;
-    }
+one_page = search (the_one, the_written, the_told)
