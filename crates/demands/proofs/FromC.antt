@@ -12,9 +12,8 @@ use lib.Seq.{drop_at}
 use borrow.Author.Tests.{not-false, leb-false}
 use Rattle.bits.proofs.Below.{either}
 use Rattle.refusal.proofs.Numbers.{not_zero, not_both, passed_first, passed_rest, accepted_is}
-use Rattle.refusal.specs.Numbers.{verdict_number, is_accepted, first_of_list}
+use Rattle.refusal.specs.Numbers.{verdict_number, is_accepted, first_of_list, Verdict}
 use Rattle.refusal.specs.declared.Refusal.TheVariants.{NotSound, NoSuchChip, BrokenEvent, ShortResults}
-use Rattle.refusal.specs.Numbers.{Verdict}
 use Rattle.views.specs.Views.{table_of, picture_of}
 use Rattle.decide.specs.Refusals.{no_such_chip}
 use Rattle.chain.specs.Refusals.{not_sound}

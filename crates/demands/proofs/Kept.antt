@@ -14,20 +14,17 @@ use lib.ListN.{get_or, set, length, length-set}
 use lib.Seq.{get_or-set_other}
 use borrow.Author.Tests.{eqb-true, eqb-false, eq-eqb, ne_eqb}
 use Rattle.bits.specs.Below.{digit}
-use Rattle.bits.proofs.Below.{either, both_right, both_not}
+use Rattle.bits.proofs.Below.{both_right, both_not}
 use Rattle.bits.proofs.Stored.{stored}
 use Rattle.refusal.proofs.Numbers.{not_zero, not_both}
 use Rattle.refusal.specs.Answers.{verdict_in, handed}
-use Rattle.refusal.specs.Numbers.{refusal_number, verdict_number, is_accepted}
-use Rattle.refusal.specs.Numbers.{Answer}
-use Rattle.refusal.specs.Numbers.{Verdict}
+use Rattle.refusal.specs.Numbers.{refusal_number, verdict_number, is_accepted, Answer, Verdict}
 use Rattle.event.specs.declared.Event.{Event}
 use Rattle.event.specs.declared.Event.TheVariants.{Command, Data, Status, Read, Line, Enable, Fall, Rise}
 use Rattle.chip.specs.Fields.{zero_chip}
 use Rattle.chip.specs.declared.Chip.{Chip}
-use Rattle.response.specs.Held.{is_idle, is_responding}
+use Rattle.response.specs.Held.{is_idle, is_responding, Response}
 use Rattle.response.specs.declared.Reply.{Reply}
-use Rattle.response.specs.Held.{Response}
 use Rattle.decide.proofs.Answered.{decided_tells}
 use Rattle.decide.proofs.Passed.{passed_names}
 use Rattle.decide.proofs.Soundness.{selected_is}
@@ -64,9 +61,11 @@ applied_there P c s k new old = set c.own (replaced_in c s) (put c.replaced new)
         ⊎_elim (λ is. subst P (sym is) (new (eqb-true r.at k here))) (λ is. subst P (sym is) old) (stored s.chips r.at k r.chip zero_chip)
     there r false elsewhere new =
         subst P (sym (get_or-set_other s.chips r.at k r.chip zero_chip (λ is. eqb-false r.at k elsewhere (sym is)))) old
+
     put : (replaced : Option Replaced) → IfSome replaced (λ replaced. replaced.at ≡ k → P replaced.chip) → P (chip_at (replacing_in replaced s) k)
     put (Some r) new = there r (eqb r.at k) refl new
     put None new = old
+
     set : (own : Option Own) (t : Chain) → P (chip_at t k) → P (chip_at (setting_in own t) k)
     set (Some own) t here = here
     set None t here = here
@@ -78,6 +77,7 @@ applied_records c s = set c.own (replaced_in c s) ∙ put c.replaced
     put : (replaced : Option Replaced) → length (replacing_in replaced s).chips ≡ length s.chips
     put (Some r) = length-set s.chips r.at r.chip
     put None = refl
+
     set : (own : Option Own) (t : Chain) → length (setting_in own t).chips ≡ length t.chips
     set (Some own) t = refl
     set None t = refl

@@ -6,7 +6,6 @@ use mathlib.Core.Bool.{Bool, true, false}
 use mathlib.Core.Path.{◌≡◌, refl}
 use Prim.Native.Nat.{ℕ}
 use lib.Dec.{eqb}
-use Rattle.refusal.proofs.Numbers.{not_both}
 use Rattle.event.specs.declared.Event.{Event}
 use Rattle.event.specs.declared.Event.TheVariants.{Command, Data, Status, Read, Line, Enable, Fall, Rise}
 use Rattle.chip.specs.Acknowledge.{answered, finished}
@@ -15,9 +14,8 @@ use Rattle.chip.specs.Data.{data_written}
 use Rattle.figure4.specs.Figure4.{figure4}
 use Rattle.chip.specs.Line.{line_set}
 use Rattle.chip.specs.declared.Chip.{Chip}
-use Rattle.response.specs.Held.{ends_response}
+use Rattle.response.specs.Held.{ends_response, Response}
 use Rattle.response.specs.declared.Reply.{Reply}
-use Rattle.response.specs.Held.{Response}
 use Rattle.decide.proofs.Rules.{changes}
 use Rattle.decide.specs.Change.{nothing, replacing}
 use Rattle.decide.specs.Decided.{ending, decided}

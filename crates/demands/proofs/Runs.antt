@@ -10,11 +10,10 @@ use native.Mathlib.Omega.{arith}
 use lib.Dec.{eqb, lit<}
 use borrow.Author.Tests.{eqb-true, ne_eqb}
 use Rattle.refusal.proofs.Numbers.{not_zero, not_both}
-use Rattle.refusal.specs.Numbers.{refusal_number, is_accepted}
+use Rattle.refusal.specs.Numbers.{refusal_number, is_accepted, Answer}
 use Rattle.chain.proofs.Number as number
 use Rattle.refusal.specs.Answers.{verdict_in, handed}
 use Rattle.chain.specs.Sound.{sound}
-use Rattle.refusal.specs.Numbers.{Answer}
 use Rattle.chain.specs.declared.Chain.{Chain}
 use Rattle.run.proofs.Before as before_any_lem
 use Rattle.run.proofs.Count as count

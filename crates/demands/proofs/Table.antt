@@ -13,9 +13,8 @@ use Rattle.figure4.proofs.Figure4.{undefined_codes}
 use Rattle.search.proofs.Order.{candidate_lt}
 use Rattle.search.specs.Candidate.{candidate, candidate_number, channel_of, search_number}
 use Rattle.refusal.proofs.Numbers.{not_both}
-use Rattle.refusal.specs.Numbers.{refusal_number, verdict_number, is_accepted, first_of_list}
+use Rattle.refusal.specs.Numbers.{refusal_number, verdict_number, is_accepted, first_of_list, Verdict}
 use Rattle.refusal.specs.declared.Refusal.{Refusal}
-use Rattle.refusal.specs.Numbers.{Verdict}
 use Rattle.bits.proofs.Below.{either}
 use Rattle.refusal.specs.Answers.{verdict_in, handed}
 use Rattle.chain.specs.Events.{accepted, refused, judged, event_of}

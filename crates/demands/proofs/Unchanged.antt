@@ -7,8 +7,7 @@ use mathlib.Core.Path.{◌≡◌, refl, ap, sym, ◌∙◌}
 use Prim.Native.Nat.{ℕ, ◌+◌, ◌*◌, ◌≤◌, min}
 use native.Mathlib.Omega.{arith}
 use lib.ListN.{get_or, length}
-use Rattle.refusal.specs.Numbers.{verdict_number, is_accepted}
-use Rattle.refusal.specs.Numbers.{Verdict}
+use Rattle.refusal.specs.Numbers.{verdict_number, is_accepted, Verdict}
 use Rattle.bits.proofs.Below.{either}
 use Rattle.refusal.specs.Answers.{Handed, handed}
 use Rattle.chain.specs.Events.{accepted, refused, judged, event_of}

@@ -13,7 +13,7 @@ use lib.Dec.{eqb, lit<}
 use lib.ListN.{get_or, length}
 use lib.Seq.{get_or-set_same}
 use borrow.Author.Tests.{eqb-true, eqb-false, eq-eqb, not-true, leb-true}
-use Rattle.bits.proofs.Below.{digit_lt, either, both_left, both_right, every_each}
+use Rattle.bits.proofs.Below.{digit_lt, both_left, both_right, every_each}
 use Rattle.bits.specs.Below.{digit, every}
 use Rattle.bits.specs.Byte.{bit, is_waiting}
 use Rattle.order.specs.Order.{channel_at}
@@ -33,9 +33,8 @@ use Rattle.chip.specs.Fields.{zero_chip}
 use Rattle.figure4.specs.Figure4.{is_reset}
 use Rattle.chip.specs.Status.{is_armed, is_polled, is_rotating, candidate_of, gint_active}
 use Rattle.chip.specs.declared.Chip.{Chip}
-use Rattle.response.specs.Held.{reply_of, is_idle, is_responding}
+use Rattle.response.specs.Held.{reply_of, is_idle, is_responding, Response}
 use Rattle.response.specs.declared.Reply.{Reply}
-use Rattle.response.specs.Held.{Response}
 use Rattle.decide.proofs.Rules.{changes}
 use Rattle.decide.proofs.Soundness.{selected_is}
 use Rattle.decide.specs.Decided.{decided}
@@ -43,7 +42,6 @@ use Rattle.decide.specs.Look.{unless_responding}
 use Rattle.decide.specs.Pulse.{driving, first_pulse, fallen}
 use Rattle.decide.specs.declared.Change.{Change}
 use Rattle.decide.specs.declared.Own.{Own}
-use Rattle.decide.specs.declared.Replaced.{Replaced}
 use Rattle.decide.specs.declared.Look.TheVariants.{Answering}
 use Rattle.chain.proofs.Acknowledge.{Answers, selected_answers, ei_high, reached_selected}
 use Rattle.chain.proofs.Rules.{chain_fields, applying}

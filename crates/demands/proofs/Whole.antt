@@ -20,7 +20,7 @@ use Rattle.chip.specs.Acknowledge.{answered, finished}
 use Rattle.chip.specs.Command.{obey, commanded}
 use Rattle.chip.specs.Data.{data_written}
 use Rattle.chip.specs.Fields.{zero_chip}
-use Rattle.figure4.specs.Figure4.{figure4}
+use Rattle.figure4.specs.Figure4.{figure4, Meaning}
 use Rattle.chip.specs.Line.{line_set}
 use Rattle.chip.specs.Reset.{reset, power_up}
 use Rattle.chip.specs.declared.Chip.{Chip}
@@ -28,7 +28,6 @@ use Rattle.figure4.specs.declared.Command.{Command}
 use Rattle.figure4.specs.declared.Command.TheVariants.{Reset, ClearIrrAndImr, ClearIrrAndImrBit, ClearImr, ClearImrBit, SetImr, SetImrBit, ClearIrr, ClearIrrBit, SetIrr, SetIrrBit, ClearHighestIsr, ClearIsr, ClearIsrBit, LoadMode, LoadRead, LoadReadAndArm, LoadReadAndDisarm, PreselectImr, PreselectAcr, PreselectLevel}
 use Rattle.chip.specs.declared.Destination.{Destination}
 use Rattle.chip.specs.declared.Destination.TheVariants.{Nowhere, Imr, Acr, Level}
-use Rattle.figure4.specs.Figure4.{Meaning}
 use Rattle.decide.specs.Decided.{decided}
 use Rattle.decide.specs.declared.Seen.{Seen}
 use Rattle.chain.proofs.Kept.{applied_chips}

@@ -1,4 +1,1 @@
 pub mod Outcomes
-pub mod PageParts
-pub mod Pages
-pub mod Parts
