@@ -34,6 +34,7 @@ pub enum Course {
 }
 
 // What a line has done: the report after it, how many bytes it has printed, and how it goes on.
+// What it has printed are the first bytes of the caller's page, and their number stands here: the page is lent, and no memory is taken for it.
 #[derive(Clone, Copy)]
 pub struct Taken {
     pub report: Report,
