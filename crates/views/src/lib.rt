@@ -48,6 +48,7 @@ pub struct PinView {
 }
 
 // The register view of a chip.
+#[tactic(auto, unfolding(crate::specs::Views::register_view))]
 pub fn register_view(chain: Chain, chip: u8) -> RegisterView
     ensures { result ≡ register_view chip chain }
 {
@@ -61,6 +62,7 @@ pub fn register_view(chain: Chain, chip: u8) -> RegisterView
 }
 
 // The pin view of a chip.
+#[tactic(auto, unfolding(crate::specs::Views::pin_view))]
 pub fn pin_view(chain: Chain, chip: u8) -> PinView
     ensures { result ≡ pin_view chip chain }
 {
