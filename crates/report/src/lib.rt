@@ -18,6 +18,7 @@ use steps::{Expected, Step};
 pub const PAGE: usize = 16384;
 
 // What the lines so far have made: the number of the next line, whether the list has started, and its chain.
+// A flag beside the chain and no Option of it: what a line prints is promised of every report, also of one that has not started and holds a chain (`OnePage`: `take`).
 #[derive(Clone, Copy)]
 pub struct Report {
     pub line: u64,

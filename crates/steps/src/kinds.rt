@@ -15,7 +15,7 @@ pub const START: u8 = 0;
 // How many kinds there are. A kind is a number and no enum: form_of, put_name and put_step answer for each of the 256 that a list may have (event::Numbered).
 pub const KINDS: u8 = 9;
 
-// The names, each in the line of its kind.
+// The names, each in the line of its kind: one text, in which a word is looked for and from which a name is written.
 const NAMES: [u8; 52] = *b"start\ncommand\ndata\nstatus\nread\nline\nenable\nfall\nrise";
 
 // The kind of the step that a word names, if it names one.
