@@ -17,6 +17,7 @@ impl Chain {
     }
 
     // EI of chip 0 is the chain's; EI of another is EO of the chip before.
+    #[tactic(auto, unfolding(crate::specs::Walk::walked_to))]
     pub fn ei(self, i: u8) -> bool
         ensures { result ≡ ei self i }
     {
@@ -24,6 +25,7 @@ impl Chain {
     }
 
     // From chip 0, while EI is high, the first chip with M2 clear and a candidate; the count if no chip answers.
+    #[tactic(auto, unfolding(crate::specs::Walk::walked_to, crate::specs::Walk::answering_chip))]
     pub(crate) fn answering_chip(self) -> u8
         ensures { result ≡ answering_chip self }
     {

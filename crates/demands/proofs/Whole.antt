@@ -10,7 +10,7 @@ use lib.Dec.{eqb, ltb}
 use lib.ListN.{get_or, length, replicate, length-set, get_or-replicate}
 use borrow.Author.Tests.{ltb-true, ltb-false}
 use Rattle.bits.proofs.Below.{either}
-use Rattle.bits.proofs.Stored.{get_d_past}
+use Rattle.std.proofs.lemmas.List.{get_or_past}
 use Rattle.bits.specs.Byte.{bit}
 use Rattle.refusal.specs.Numbers.{Verdict}
 use Rattle.event.specs.declared.Event.{Event}
@@ -133,7 +133,7 @@ each_whole s i w = by (ltb i 8) refl
     by true below = w.whole_chips i (ltb-true i 8 below)
     by false past =
         let most : 8 ≤ i = ltb-false i 8 past in
-        subst WholeChip (sym (get_d_past s.chips i zero_chip (subst (λ (n : ℕ). n ≤ i) (sym w.eight_chips) most))) zero_whole
+        subst WholeChip (sym (get_or_past s.chips i zero_chip (subst (λ (n : ℕ). n ≤ i) (sym w.eight_chips) most))) zero_whole
 
 judged_whole : (v : Verdict) (e : Event) (s : Chain) → Whole s → Whole (judged v e s).chain
 unfolding decision seen_at counted chain_fields

@@ -18,6 +18,7 @@ use steps::{Expected, Step};
 pub const PAGE: usize = 16384;
 
 // What the lines so far have made: the number of the next line, whether the list has started, and its chain.
+// A flag beside the chain and no Option of it: what a line prints is promised of every report, also of one that has not started and holds a chain (`OnePage`: `take`).
 #[derive(Clone, Copy)]
 pub struct Report {
     pub line: u64,
@@ -34,6 +35,7 @@ pub enum Course {
 }
 
 // What a line has done: the report after it, how many bytes it has printed, and how it goes on.
+// What it has printed are the first bytes of the caller's page, and their number stands here: the page is lent, and no memory is taken for it.
 #[derive(Clone, Copy)]
 pub struct Taken {
     pub report: Report,

@@ -11,12 +11,6 @@ use Rattle.image.specs.Reading.{chain_in}
 use Rattle.image.proofs.OneToOne.{image_length}
 use Rattle.parts.proofs.apply.walked.Goals as goal
 
-pub response_in-response-requires : goal.response_in-response-requires
-response_in-response-requires c = omega (arith, image_length c.args.image.now c.requires)
-
-pub bounds-image-1 : goal.bounds-image-1
-bounds-image-1 c = omega (arith, image_length c.args.image.now c.requires)
-
 pub returns : goal.returns
 unfolding chain_in
 returns c =
