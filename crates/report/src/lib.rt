@@ -73,18 +73,16 @@ impl Report {
         match step_of(self.started, line) {
             Step::Nothing => self.goes_on(self.started, self.chain, 0),
             Step::Start(count, fill) => {
-                let started = Chain::start(count, fill);
                 let step = Numbered {
                     kind: START,
                     chip: count,
                     channel: 0,
                     value: fill,
                 };
-                self.answer(step, started, page)
+                self.answer(step, Chain::start(count, fill), page)
             }
             Step::Happens(event) => {
-                let happened = self.chain.on(event);
-                self.answer(Numbered::from(event), happened, page)
+                self.answer(Numbered::from(event), self.chain.on(event), page)
             }
             Step::Malformed(expected, place) => {
                 let length = put_malformed(page, 0, self.line, expected, found_in(line, place));
@@ -102,12 +100,11 @@ impl Report {
         if taken.course.has_ended() {
             return taken;
         }
-        let report = taken.report;
-        if report.started {
-            return report.ends(taken.length, Course::Over);
+        if taken.report.started {
+            return taken.report.ends(taken.length, Course::Over);
         }
         let length = put_malformed(page, taken.length, self.line, Expected::TheStart, b"");
-        report.ends(length, Course::Stopped)
+        taken.report.ends(length, Course::Stopped)
     }
 
     // An accepted step prints its page, a refused one its refusal.
