@@ -24,6 +24,7 @@ pub fn am9519a_candidate(irr: u8, imr: u8, isr: u8, mode: u8, pointer: u8) -> u8
     ensures { result ≡ search_number irr imr isr mode pointer }
 {
     if pointer > 7 {
+        // The number of no refusal: a caller in C reads a channel here.
         return 254;
     }
     candidate_number(candidate_of(irr, imr, isr, mode, pointer))

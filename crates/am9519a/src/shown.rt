@@ -21,7 +21,7 @@ pub(crate) fn chain_of(image: &[u8]) -> Chain
     }
 }
 
-// A register view's nine bytes.
+// A register view's nine bytes. (C has the two views apart, each with its own bytes in its own order, so each has a function here and in lib.rt.)
 pub(crate) fn table_bytes(table: Registers) -> [u8; 9]
     ensures { result ≡ table_bytes table }
 {

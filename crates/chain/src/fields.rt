@@ -39,7 +39,7 @@ impl Chain {
     }
 
     // The chain with chip i replaced; past the eight records nothing is.
-    #[tactic(auto, unfolding(crate::specs::Fields::with_chip, crate::specs::Fields::with_chips), using(bits::proofs::Stored::set_past))]
+    #[tactic(auto, unfolding(crate::specs::Fields::with_chip, crate::specs::Fields::with_chips), using(std::proofs::lemmas::List::set_past))]
     pub(crate) fn with_chip(mut self, i: u8, chip: Chip) -> Chain
         ensures { result ≡ with_chip i chip self }
     {

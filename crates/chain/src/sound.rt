@@ -18,7 +18,8 @@ impl Chain {
         ensures { result ≡ sound self }
     {
         is_count(self.count)
-            && self.has_sound_chips() & response::sound::is_sound(self.response, self.count, self.iack)
+            && self.has_sound_chips()
+                & response::sound::is_sound(self.response, self.count, self.iack)
     }
 
     // Each chip in the count.

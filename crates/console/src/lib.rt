@@ -64,6 +64,7 @@ pub fn tell(errors: &impl Print, name: &[u8], message: &[u8]) {
 }
 
 // The system's word for an error: what std prints for it, without the number of the error, which std puts behind it in brackets. Hands back how long it is.
+// Into memory that is there already: what is told when memory has run out takes none.
 fn put_word(words: &mut [u8], error: &Error) -> usize {
     let whole = put_shown(words, error);
     match error.raw_os_error() {

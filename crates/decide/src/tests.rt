@@ -1,4 +1,5 @@
 // When an event on a sound chain is refused: the tests of the table, in its order, over what the event looks at.
+// Each takes the numbers that it tests and no `Seen`: it is promised of any of them (`OnePart`), and a view asks for one of the tests too.
 ghost use Rattle.std.specs.Prelude.{not, [], ◌∷◌, ◌≡◌};
 ghost use Rattle.refusal.specs.Numbers.{first_of_list};
 ghost use Rattle.decide.specs.Refusals.{no_such_chip, no_such_channel, no_such_level, pulse_under_way, iack_there_already, undefined_command, no_destination, past_its_count, verdict_on};

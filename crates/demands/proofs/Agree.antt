@@ -1,6 +1,7 @@
 -- Picture and table of one state agree, proved.
 -- Assumes nothing.
-use mathlib.Core.Bool.{and_comm, Bool, true, false, not, ◌&&◌}
+use native.Mathlib.Omega.{arith}
+use mathlib.Core.Bool.{and_comm, Bool, not, ◌&&◌}
 use mathlib.Core.Path.{◌≡◌, refl, ap, sym, subst, ◌∙◌}
 use Prim.Native.Nat.{ℕ}
 use Rattle.bits.specs.Below.{digit}
@@ -20,10 +21,7 @@ use Rattle.demands.proofs.Rules.{byte_bits, by_the_rules}
 
 -- the pin by M3, read again by M3
 pin_read : (mode : ℕ) (m3 active : Bool) → bit mode 3 ≡ m3 → gint_reads_active mode (gint_pin mode active) ≡ active
-pin_read mode true true is = rw is refl
-pin_read mode true false is = rw is refl
-pin_read mode false true is = rw is refl
-pin_read mode false false is = rw is refl
+pin_read mode m3 active is = search arith
 
 -- of any chain and any of its chips
 pub one_state : (s : Chain) (chip : ℕ) → Agree (table_of chip s) (picture_of chip s)

@@ -1,22 +1,19 @@
 -- The first demand, from its parts.
 -- Assumes nothing.
-use Rattle.outcomes.proofs.Outcomes as outcomes
-use Rattle.outcomes.proofs.PageParts as page-parts
-use Rattle.outcomes.proofs.Pages as pages
-use Rattle.outcomes.proofs.Parts as parts
+use Rattle.outcomes.proofs.Outcomes.{one_outcome, one_page, one_part, one_page_part}
 use Rattle.demands.specs.Demand1.{Demand1}
-use Rattle.demands.proofs.FromC as calls
-use Rattle.demands.proofs.Table as table
-use Rattle.demands.proofs.Unchanged as unchanged
+use Rattle.demands.proofs.FromC.{from_c}
+use Rattle.demands.proofs.Table.{by_the_table}
+use Rattle.demands.proofs.Unchanged.{unchanged}
 
 pub demand_1 : Demand1
 demand_1 =
     record {
-      one_outcome = outcomes.one_outcome;
-      one_page = pages.one_page;
-      one_part = parts.one_part;
-      one_page_part = page-parts.one_page_part;
-      by_the_table = table.by_the_table;
-      unchanged = unchanged.unchanged;
-      from_c = calls.from_c;
+      one_outcome = one_outcome;
+      one_page = one_page;
+      one_part = one_part;
+      one_page_part = one_page_part;
+      by_the_table = by_the_table;
+      unchanged = unchanged;
+      from_c = from_c;
     }

@@ -51,8 +51,7 @@ begins s i channel e es w =
     }
 
 digit_le : (a b : Bool) → (a ≡ true → b ≡ true) → digit a ≤ digit b
-digit_le false b implies = omega arith
-digit_le true b implies = rw (implies refl) (omega arith)
+digit_le a b implies = search arith
 
 -- how far a wait has come: pulses, others, and the place of the request before and after it
 record Come (s : Chain) (i channel : ℕ) (es : List Event) : Type 0 where
@@ -85,7 +84,7 @@ end s i channel [] w = w
 end s i channel (e ∷ es) w = end (event_of e s).chain i channel es (begins s i channel e es w).then
 
 resets_none : (e : Event) (s : Chain) (i : ℕ) → e ≡ Fall → resets i e s ≡ false
-resets_none e s i is = subst (λ (e : Event). resets i e s ≡ false) (sym is) refl
+resets_none e s i is = search arith
 
 -- after seven counted pulses the request stands first: another counted one cannot be answered for another channel
 eighth : (s : Chain) (i channel : ℕ) (es : List Event) → Waited s i channel es → 7 ≤ pulses i s es

@@ -1,20 +1,19 @@
 -- The calls from C, proved: a call's verdict decides its number and what it writes; a run's number tells which of its two parts decided.
 -- Assumes nothing.
+use native.Mathlib.Omega.{arith}
 use Rattle.std.specs.Prelude.{Ok, Err}
 use mathlib.Core.Bool.{Bool, true, false, not, cond}
 use mathlib.Core.List.{List, [], ◌∷◌, ◌++◌}
 use mathlib.Core.Path.{◌≡◌, refl, ap, sym, subst, ◌∙◌}
 use Prim.Native.Nat.{ℕ, ◌+◌, ◌%◌, ◌/◌, ◌<◌, min}
 use native.Mathlib.Nat.{zero-add}
-use lib.Dec.{eqb, leb, ltb}
+use lib.Dec.{eqb, ltb}
 use lib.ListN.{length, drop}
 use lib.Seq.{drop_at}
-use borrow.Author.Tests.{not-false, leb-false}
 use Rattle.bits.proofs.Below.{either}
-use Rattle.refusal.proofs.Numbers.{not_zero, not_both, passed_first, passed_rest, accepted_is}
-use Rattle.refusal.specs.Numbers.{verdict_number, is_accepted, first_of_list}
-use Rattle.refusal.specs.declared.Refusal.TheVariants.{NotSound, NoSuchChip, BrokenEvent, ShortResults}
-use Rattle.refusal.specs.Numbers.{Verdict}
+use Rattle.refusal.proofs.Numbers.{not_both, passed_first, passed_rest, accepted_is}
+use Rattle.refusal.specs.Numbers.{verdict_number, is_accepted, first_of_list, Verdict}
+use Rattle.refusal.specs.declared.Refusal.TheVariants.{NotSound, BrokenEvent, ShortResults}
 use Rattle.views.specs.Views.{table_of, picture_of}
 use Rattle.decide.specs.Refusals.{no_such_chip}
 use Rattle.chain.specs.Refusals.{not_sound}
@@ -50,18 +49,15 @@ use Rattle.run.proofs.Before as before_any_lem
 -- a call by its verdict
 refused_leaves : (v : Verdict) (old new : List ℕ) → ((called v old new).number ≡ 0 → ⊥) → (called v old new).buffer ≡ old
 unfolding called
-refused_leaves (Err why) old new other = refl
-refused_leaves (Ok tt) old new other = absurd (other refl)
+refused_leaves v old new other = search arith
 
 accepted_writes : (v : Verdict) (old new : List ℕ) → (called v old new).number ≡ 0 → (called v old new).buffer ≡ new
 unfolding called
-accepted_writes (Ok tt) old new e = refl
-accepted_writes (Err why) old new e = absurd (not_zero why e)
+accepted_writes v old new e = search arith
 
 is_accepted_lem : (v : Verdict) (old new : List ℕ) → (called v old new).number ≡ 0 → v ≡ Ok tt
 unfolding called
-is_accepted_lem (Ok tt) old new e = refl
-is_accepted_lem (Err why) old new e = absurd (not_zero why e)
+is_accepted_lem v old new e = search arith
 
 called_by : (v : Verdict) (old new : List ℕ) → (called v old new).number ≡ verdict_number v
 unfolding called
@@ -71,13 +67,7 @@ called_by v old new = refl
 start_number : (count fill : ℕ) (image : List ℕ)
     → (start_call count fill image).number ≡ given ((1, not (eqb (length image) 528)) ∷ (1, not (count_sound count)) ∷ [])
 unfolding start_call called start_of
-start_number count fill image = by (eqb (length image) 528) (count_sound count) refl refl
-  where
-    by : (long within : Bool) → eqb (length image) 528 ≡ long → count_sound count ≡ within
-        → (start_call count fill image).number ≡ given ((1, not (eqb (length image) 528)) ∷ (1, not (count_sound count)) ∷ [])
-    by false within e f = simp (e)
-    by true true e f = simp (e, f)
-    by true false e f = simp (e, f)
+start_number count fill image = search arith
 
 -- a view
 view_rest : (v : Verdict) (view new : List ℕ) (n : ℕ) → length new ≡ n → drop n (called v view (over view 0 new)).buffer ≡ drop n view
@@ -90,36 +80,17 @@ view_rest (Err why) view new n is = refl
 seen : (n : ℕ) (image : List ℕ) (chip : ℕ) (view : List ℕ) (s : Chain)
     → first_of_list (not_an_image image ∷ not_sound s ∷ no_such_chip s.count chip ∷ short_buffer n view ∷ []) ≡ Ok tt
     → (is_image image ≡ true) × ((sound s ≡ true) × (chip < s.count))
-seen n image chip view s is =
-    let rest : first_of_list (not_sound s ∷ no_such_chip s.count chip ∷ short_buffer n view ∷ []) ≡ Ok tt =
-    passed_rest (not (is_image image)) NotSound (not_sound s ∷ no_such_chip s.count chip ∷ short_buffer n view ∷ []) is in (
-      not-false (is_image image) (passed_first (not (is_image image)) NotSound (not_sound s ∷ no_such_chip s.count chip ∷ short_buffer n view ∷ []) is),
-      (
-        not-false (sound s) (passed_first (not (sound s)) NotSound (no_such_chip s.count chip ∷ short_buffer n view ∷ []) rest),
-        leb-false s.count chip
-            (passed_first (leb s.count chip) NoSuchChip (short_buffer n view ∷ [])
-            (passed_rest (not (sound s)) NotSound (no_such_chip s.count chip ∷ short_buffer n view ∷ []) rest)),
-      ),
-    )
+seen n image chip view s is = search arith
 
 -- the bytes of views that agree
 bytes_agree : (t : Registers) (p : Pins) (table picture : List ℕ) → Agree t p → BytesAgree (over table 0 (table_bytes t)) (over picture 0 (picture_bytes p))
-bytes_agree t p table picture a =
-    record {
-      event_low = ap (λ (n : ℕ). n % 256) a.events;
-      event_high = ap (λ (n : ℕ). n / 256) a.events;
-      s6_is_ei = a.s6_is_ei;
-      gint_is_s7_and_not_s4 = a.gint_is_s7_and_not_s4;
-    }
+bytes_agree t p table picture a = search arith
 
 -- a run: which numbers come before any event
 before-first : (a b c : Bool)
     → is_before_any (verdict_number (first_of_list ((a, NotSound) ∷ (b, BrokenEvent) ∷ (c, ShortResults) ∷ [])))
     ≡ not (is_accepted (first_of_list ((a, NotSound) ∷ (b, BrokenEvent) ∷ (c, ShortResults) ∷ [])))
-before-first true b c = refl
-before-first false true c = refl
-before-first false false true = refl
-before-first false false false = refl
+before-first a b c = search arith
 
 -- entries of which none that applies is 1, 10 or 11
 abbrev Later : List Entry → Type 0
@@ -133,13 +104,7 @@ later_given ((n, false) ∷ l) h = later_given l h.1
 
 -- of a sound chain no event is refused by one of them
 listed_later : (e : Numbered) (s : Chain) → sound s ≡ true → Later (listed_entries e s)
-listed_later e s is = (
-  λ a. refl,
-  (
-    λ a. not_both (sym (ap not is) ∙ a),
-    (λ a. refl, (λ a. refl, (λ a. refl, (λ a. refl, (λ a. refl, (λ a. refl, (λ a. refl, (λ a. refl, tt)))))))),
-  ),
-)
+listed_later e s is = search arith
 
 run_later : (s : Chain) (events : List ℕ) (limit : ℕ) (results : List ℕ) → is_accepted (before_any s events results) ≡ true
     → Later (run_entries s events results ++ last_entries events (min limit (length events / 4)) (run_of s events limit results))
@@ -228,11 +193,7 @@ run_read image events limit results accepted =
 called_number : (image events : List ℕ) (limit : ℕ) (results : List ℕ) (accepted : ℕ)
     → (run_call image events limit results accepted).number ≡ verdict_number (run_of (chain_of image) events limit results).ran.verdict
 unfolding run_call
-called_number image events limit results accepted =
-    either (λ (c : RunCalled). c.number ≡ verdict_number (run_of (chain_of image) events limit results).ran.verdict)
-    (is_accepted (before_any (chain_of image) events results)) _ _
-    (λ on. refl)
-    (λ off. refl)
+called_number image events limit results accepted = search arith
 
 image_number : (image events : List ℕ) (limit : ℕ) (results : List ℕ) (accepted : ℕ) → is_image image ≡ true
     → (run_call image events limit results accepted).number ≡ verdict_number (run_of (chain_in image) events limit results).ran.verdict

@@ -7,27 +7,23 @@ use mathlib.Core.List.{List, [], ◌∷◌}
 use mathlib.Core.Logic.{⊎_elim}
 use mathlib.Core.Path.{◌≡◌, refl, ap, ap₂, sym, subst, ◌∙◌}
 use Prim.Native.Nat.{ℕ, ◌+◌, ◌%◌, ◌≤◌, ◌<◌}
-use native.Mathlib.Nat.{mod-lt}
 use native.Mathlib.Omega.{arith}
-use lib.Dec.{eqb, lit<}
+use lib.Dec.{eqb}
 use lib.ListN.{get_or, set, length, length-set}
 use lib.Seq.{get_or-set_other}
 use borrow.Author.Tests.{eqb-true, eqb-false, eq-eqb, ne_eqb}
 use Rattle.bits.specs.Below.{digit}
-use Rattle.bits.proofs.Below.{either, both_right, both_not}
+use Rattle.bits.proofs.Below.{both_not}
 use Rattle.bits.proofs.Stored.{stored}
 use Rattle.refusal.proofs.Numbers.{not_zero, not_both}
 use Rattle.refusal.specs.Answers.{verdict_in, handed}
-use Rattle.refusal.specs.Numbers.{refusal_number, verdict_number, is_accepted}
-use Rattle.refusal.specs.Numbers.{Answer}
-use Rattle.refusal.specs.Numbers.{Verdict}
+use Rattle.refusal.specs.Numbers.{refusal_number, verdict_number, is_accepted, Answer, Verdict}
 use Rattle.event.specs.declared.Event.{Event}
 use Rattle.event.specs.declared.Event.TheVariants.{Command, Data, Status, Read, Line, Enable, Fall, Rise}
 use Rattle.chip.specs.Fields.{zero_chip}
 use Rattle.chip.specs.declared.Chip.{Chip}
-use Rattle.response.specs.Held.{is_idle, is_responding}
+use Rattle.response.specs.Held.{is_idle, is_responding, Response}
 use Rattle.response.specs.declared.Reply.{Reply}
-use Rattle.response.specs.Held.{Response}
 use Rattle.decide.proofs.Answered.{decided_tells}
 use Rattle.decide.proofs.Passed.{passed_names}
 use Rattle.decide.proofs.Soundness.{selected_is}
@@ -64,9 +60,11 @@ applied_there P c s k new old = set c.own (replaced_in c s) (put c.replaced new)
         ⊎_elim (λ is. subst P (sym is) (new (eqb-true r.at k here))) (λ is. subst P (sym is) old) (stored s.chips r.at k r.chip zero_chip)
     there r false elsewhere new =
         subst P (sym (get_or-set_other s.chips r.at k r.chip zero_chip (λ is. eqb-false r.at k elsewhere (sym is)))) old
+
     put : (replaced : Option Replaced) → IfSome replaced (λ replaced. replaced.at ≡ k → P replaced.chip) → P (chip_at (replacing_in replaced s) k)
     put (Some r) new = there r (eqb r.at k) refl new
     put None new = old
+
     set : (own : Option Own) (t : Chain) → P (chip_at t k) → P (chip_at (setting_in own t) k)
     set (Some own) t here = here
     set None t here = here
@@ -78,6 +76,7 @@ applied_records c s = set c.own (replaced_in c s) ∙ put c.replaced
     put : (replaced : Option Replaced) → length (replacing_in replaced s).chips ≡ length s.chips
     put (Some r) = length-set s.chips r.at r.chip
     put None = refl
+
     set : (own : Option Own) (t : Chain) → length (setting_in own t).chips ≡ length t.chips
     set (Some own) t = refl
     set None t = refl
@@ -109,8 +108,7 @@ within e s =
 -- what an event leaves is the chain of before or, where it is accepted, the chain with its change applied
 pub left : (P : Chain → Type 0) (v : Verdict) (e : Event) (s : Chain) → P s → (v ≡ Ok tt → P (counted (applied (decision e s) s))) → P (judged v e s).chain
 unfolding judged accepted refused
-left P (Err why) e s before changed = before
-left P (Ok tt) e s before changed = changed refl
+left P v e s before changed = search arith
 
 -- so it leaves the other chips, and as many of them, and the count
 same : (v : Verdict) (e : Event) (s : Chain) (k : ℕ) → (v ≡ Ok tt → replaces e s k ≡ false) → chip_at (judged v e s).chain k ≡ chip_at s k
@@ -130,27 +128,12 @@ unfolding chain_fields counted
 records v e s = left (λ t. length t.chips ≡ length s.chips) v e s refl (λ ok. applied_records (decision e s) s)
 
 -- at most one chip
-one_number : (i j k : ℕ) → eqb i j ≡ true → eqb i k ≡ true → j ≡ k
-one_number i j k ej ek = sym (eqb-true i j ej) ∙ eqb-true i k ek
-
-one_response : (response : Response) (j k : ℕ) → is_responding response j ≡ true → is_responding response k ≡ true → j ≡ k
-one_response None j k ej ek = not_both ej
-one_response (Some r) j k ej ek = one_number r.chip j k ej ek
-
 one : (e : Event) (s : Chain) (j k : ℕ) → replaces e s j ≡ true → replaces e s k ≡ true → j ≡ k
-one (Command i code) s j k ej ek = one_number i j k ej ek
-one (Data i byte) s j k ej ek = one_number i j k ej ek
-one (Status i) s j k ej ek = not_both ej
-one (Read i) s j k ej ek = not_both ej
-one (Line i channel level) s j k ej ek = one_number i j k ej ek
-one (Enable level) s j k ej ek = not_both ej
-one Fall s j k ej ek =
-    one_response (selected s) j k (both_right (is_idle s.response) _ ej) (both_right (is_idle s.response) _ ek)
-one Rise s j k ej ek = one_response s.response j k ej ek
+one e s j k ej ek = search arith
 
 -- an accepted event replaces no record past the count
 not-past : (i count k : ℕ) → i < count → count ≤ k → eqb i k ≡ false
-not-past i count k h l = ne_eqb i k (λ is. absurd (omega (arith, is)))
+not-past i count k h l = search arith
 
 selected-past : (found : Response) (s : Chain) (k : ℕ) → selected s ≡ found → sound s ≡ true → s.count ≤ k → is_responding found k ≡ false
 selected-past None s k is e l = refl
@@ -173,9 +156,7 @@ past Rise s k v l = response_past s.response s k refl (passed_sound Rise s v) l
 
 -- an accepted event's answer has the number 0
 pub answer_number : (a : Answer) → verdict_number (verdict_in a) ≡ (handed a).number
-answer_number (Ok None) = refl
-answer_number (Ok (Some b)) = refl
-answer_number (Err why) = refl
+answer_number a = search arith
 
 pub answers_zero : (e : Event) (s : Chain) → (handed (answer_of e s)).number ≡ 0
 unfolding decision
@@ -203,8 +184,7 @@ number_judged (Ok tt) e s a = ap (λ (n : ℕ). ((n + 1) % 65536 + a) % 65536) (
 
 number_lt : (v : Verdict) (e : Event) (s : Chain) → s.event < 65536 → (judged v e s).chain.event < 65536
 unfolding chain_fields judged accepted refused counted
-number_lt (Err why) e s h = h
-number_lt (Ok tt) e s h = mod-lt ((applied (decision e s) s).event + 1) (lit< tt)
+number_lt v e s h = search arith
 
 number : (s : Chain) (es : List Event) → s.event < 65536 → (after s es).event ≡ (s.event + accepted_in s es) % 65536
 unfolding after along event_of

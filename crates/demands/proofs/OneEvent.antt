@@ -7,7 +7,6 @@ use mathlib.Core.Path.{◌≡◌, refl, ap, sym, ◌∙◌}
 use Prim.Native.Nat.{ℕ, ◌≤◌, min}
 use native.Mathlib.Omega.{arith}
 use lib.ListN.{length}
-use borrow.Author.Tests.{le-ltb}
 use Rattle.refusal.proofs.Numbers.{accepted_is}
 use Rattle.refusal.specs.Answers.{verdict_in, handed}
 use Rattle.refusal.specs.Numbers.{is_accepted}
@@ -34,7 +33,7 @@ in_four_bytes e = read_as_written e
 -- a sound chain, and room: nothing refuses the run before its event
 none_refuses : (s : Chain) (bytes results : List ℕ) → sound s ≡ true → length bytes ≡ 4 → 2 ≤ length results → before_any s bytes results ≡ Ok tt
 unfolding before_any
-none_refuses s bytes results is four room = simp (is, four, le-ltb (length results) 2 room)
+none_refuses s bytes results is four room = search arith
 
 -- a chain that is not sound refuses both
 run_refused : (s : Chain) (bytes results : List ℕ) → sound s ≡ false → before_any s bytes results ≡ Err NotSound

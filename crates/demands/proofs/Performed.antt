@@ -42,8 +42,7 @@ stays : (bytes : List ℕ) (n : ℕ) (s : Chain) (results : List ℕ) → (run_f
 stays bytes n s results = ap (λ (r : Report). r.ran.chain) (none_left bytes n s results)
 
 moved : (bytes : List ℕ) (m : ℕ) (b c b' c' : Chain) (results : List ℕ) → b' ≡ b → c' ≡ c → Performed bytes m b c results → Performed bytes m b' c' results
-moved bytes m b c b' c' results eb ec p =
-    subst (λ (b : Chain). Performed bytes m b c' results) (sym eb) (subst (λ (c : Chain). Performed bytes m b c results) (sym ec) p)
+moved bytes m b c b' c' results eb ec p = search arith
 
 -- what a run from the n-th event on leaves: the bytes of the events before, and each of its own events performed
 record Leaves (bytes : List ℕ) (n : ℕ) (s : Chain) (results : List ℕ) (r : Report) (a : ℕ) : Type 0 where

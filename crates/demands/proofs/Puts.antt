@@ -1,12 +1,12 @@
 -- The five ways in which an event puts another chip in the place of the one that it sees: a command, a data write, a line, a first pulse that is answered, and
 -- the rise that ends a response. Whatever holds of each of them holds of every event that replaces a chip.
 -- Assumes nothing.
+use native.Mathlib.Omega.{arith}
 use Rattle.std.specs.Prelude.{Some, None, IfSome}
-use mathlib.Core.Bool.{Bool, true, false}
+use mathlib.Core.Bool.{Bool}
 use mathlib.Core.Path.{◌≡◌, refl}
 use Prim.Native.Nat.{ℕ}
 use lib.Dec.{eqb}
-use Rattle.refusal.proofs.Numbers.{not_both}
 use Rattle.event.specs.declared.Event.{Event}
 use Rattle.event.specs.declared.Event.TheVariants.{Command, Data, Status, Read, Line, Enable, Fall, Rise}
 use Rattle.chip.specs.Acknowledge.{answered, finished}
@@ -15,9 +15,8 @@ use Rattle.chip.specs.Data.{data_written}
 use Rattle.figure4.specs.Figure4.{figure4}
 use Rattle.chip.specs.Line.{line_set}
 use Rattle.chip.specs.declared.Chip.{Chip}
-use Rattle.response.specs.Held.{ends_response}
+use Rattle.response.specs.Held.{ends_response, Response}
 use Rattle.response.specs.declared.Reply.{Reply}
-use Rattle.response.specs.Held.{Response}
 use Rattle.decide.proofs.Rules.{changes}
 use Rattle.decide.specs.Change.{nothing, replacing}
 use Rattle.decide.specs.Decided.{ending, decided}
@@ -39,14 +38,12 @@ Puts v P c = IfSome c.replaced (λ replaced. (replaced.at ≡ v.at) × P replace
 
 ending_puts : (ends : Bool) (v : Seen) (P : Chip → Type 0) (c : Change) → Puts v P c → Puts v P (ending ends v c)
 unfolding changes
-ending_puts true v P c holds = holds
-ending_puts false v P c holds = holds
+ending_puts ends v P c holds = search arith
 
 first_puts : (found : Response) (v : Seen) (P : Chip → Type 0) → selected_by v ≡ found → ((r : Reply) → selected_by v ≡ Some r → P (answered r.channel v.chip))
     → Puts v P (first_pulse found v)
 unfolding changes driving first_pulse
-first_puts None v P is holds = tt
-first_puts (Some r) v P is holds = (refl, holds r is)
+first_puts found v P is holds = search arith
 
 fallen_puts : (response : Response) (v : Seen) (P : Chip → Type 0) → v.response ≡ response
     → ((r : Reply) → v.response ≡ None → selected_by v ≡ Some r → P (answered r.channel v.chip))
@@ -57,8 +54,7 @@ fallen_puts (Some r) v P is holds = tt
 
 after_puts : (last : Bool) (r : Reply) (v : Seen) (P : Chip → Type 0) → P (finished r.channel v.chip) → Puts v P (risen_after last r v)
 unfolding changes risen_after
-after_puts true r v P holds = (refl, holds)
-after_puts false r v P holds = tt
+after_puts last r v P holds = search arith
 
 risen_puts : (response : Response) (v : Seen) (P : Chip → Type 0) → v.response ≡ response
     → ((r : Reply) → v.response ≡ Some r → P (finished r.channel v.chip))

@@ -78,13 +78,11 @@ record Digits (channel a p r e x : ℕ) (status : ℕ) : Type 0 where
 
 digits : (channel a p r e x : ℕ) → channel < 8 → a < 2 → p < 2 → r < 2 → e < 2 → x < 2
     → Digits channel a p r e x (channel + 8 * a + 16 * p + 32 * r + 64 * e + 128 * x)
-digits channel a p r e x h ha hp hr he hx =
-    record { s2_to_s0 = omega arith; s3 = omega arith; s4 = omega arith; s5 = omega arith; s6 = omega arith; s7 = omega arith }
+digits channel a p r e x h ha hp hr he hx = search arith
 
 -- a digit read as a test
 is_digit : (n : ℕ) (b : Bool) → n ≡ digit b → eqb n 1 ≡ b
-is_digit n true is = ap (λ (n : ℕ). eqb n 1) is
-is_digit n false is = ap (λ (n : ℕ). eqb n 1) is
+is_digit n b is = search arith
 
 pub byte_bits : (c : Chip) (ei : Bool) → StatusBits (status_byte c ei) c ei
 byte_bits c ei =

@@ -1,6 +1,6 @@
 -- What a run counts, proved: each event by event, then for the whole run.
 -- Assumes nothing.
-use Rattle.std.specs.Prelude.{Some, None, Ok, Err}
+use Rattle.std.specs.Prelude.{Ok, Err}
 use mathlib.Core.Bool.{Bool, true, false}
 use mathlib.Core.List.{List}
 use mathlib.Core.Path.{◌≡◌, refl, ap, sym, ◌∙◌, subst}
@@ -8,13 +8,12 @@ use Prim.Native.Nat.{ℕ, ◌+◌, ◌%◌, ◌<◌, min}
 use native.Mathlib.Nat.{mod-lt}
 use native.Mathlib.Omega.{arith}
 use lib.Dec.{eqb, lit<}
-use borrow.Author.Tests.{eqb-true, ne_eqb}
-use Rattle.refusal.proofs.Numbers.{not_zero, not_both}
-use Rattle.refusal.specs.Numbers.{refusal_number, is_accepted}
+use borrow.Author.Tests.{eqb-true}
+use Rattle.refusal.proofs.Numbers.{not_both}
+use Rattle.refusal.specs.Numbers.{is_accepted, Answer}
 use Rattle.chain.proofs.Number as number
 use Rattle.refusal.specs.Answers.{verdict_in, handed}
 use Rattle.chain.specs.Sound.{sound}
-use Rattle.refusal.specs.Numbers.{Answer}
 use Rattle.chain.specs.declared.Chain.{Chain}
 use Rattle.run.proofs.Before as before_any_lem
 use Rattle.run.proofs.Count as count
@@ -28,9 +27,7 @@ use Rattle.demands.proofs.Performed.{performed}
 use Rattle.demands.specs.Runs.{Runs}
 
 pub zero_is_accepted : (a : Answer) → is_accepted (verdict_in a) ≡ eqb (handed a).number 0
-zero_is_accepted (Ok None) = refl
-zero_is_accepted (Ok (Some b)) = refl
-zero_is_accepted (Err why) = sym (ne_eqb (refusal_number why) 0 (not_zero why))
+zero_is_accepted a = search arith
 
 step_number : (l : Listed) (s : Chain) → is_accepted (verdict_in (listed_outcome l s).answer) ≡ true → (listed_outcome l s).chain.event ≡ (s.event + 1) % 65536
 step_number (Ok e) s h = number.number_counts e s (eqb-true _ 0 (sym (zero_is_accepted (listed_outcome (Ok e) s).answer) ∙ h))

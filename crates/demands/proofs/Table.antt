@@ -1,6 +1,6 @@
 -- Every call goes by the one table of numbers, proved: the tests of each call, taken in their order, are the entries of the table that can apply to it.
 -- Assumes nothing.
-use Rattle.std.specs.Prelude.{Option, Some, None, Ok, Err}
+use Rattle.std.specs.Prelude.{Option, Ok, Err}
 use mathlib.Core.Bool.{Bool, true, false, not}
 use mathlib.Core.List.{List, [], ◌∷◌, ◌++◌}
 use mathlib.Core.Path.{◌≡◌, refl, ap, sym, subst, ◌∙◌}
@@ -8,14 +8,13 @@ use Prim.Native.Nat.{ℕ, zero, suc, ◌+◌, ◌*◌, ◌≤◌, ◌<◌, min}
 use native.Mathlib.Omega.{arith}
 use lib.Dec.{eqb, leb, ltb}
 use lib.ListN.{length, get_or}
-use borrow.Author.Tests.{le-leb, lt-leb, leb-true, leb-false, ne_eqb, lt-ltb, le-ltb}
+use borrow.Author.Tests.{le-leb, lt-leb, leb-true, leb-false, lt-ltb, le-ltb}
 use Rattle.figure4.proofs.Figure4.{undefined_codes}
 use Rattle.search.proofs.Order.{candidate_lt}
 use Rattle.search.specs.Candidate.{candidate, candidate_number, channel_of, search_number}
 use Rattle.refusal.proofs.Numbers.{not_both}
-use Rattle.refusal.specs.Numbers.{refusal_number, verdict_number, is_accepted, first_of_list}
+use Rattle.refusal.specs.Numbers.{refusal_number, verdict_number, is_accepted, first_of_list, Verdict}
 use Rattle.refusal.specs.declared.Refusal.{Refusal}
-use Rattle.refusal.specs.Numbers.{Verdict}
 use Rattle.bits.proofs.Below.{either}
 use Rattle.refusal.specs.Answers.{verdict_in, handed}
 use Rattle.chain.specs.Events.{accepted, refused, judged, event_of}
@@ -71,10 +70,7 @@ event_number e s = judged_number (verdict_of e s) e s ∙ first-given (not_sound
 -- a start
 start_number : (count fill : ℕ) → (handed (start_of count fill).answer).number ≡ given ((1, not (count_sound count)) ∷ [])
 unfolding start_of
-start_number count fill =
-    either (λ (o : Outcome). (handed o.answer).number ≡ given ((1, not (count_sound count)) ∷ [])) (count_sound count) _ _
-    (λ within. rw within refl)
-    (λ outside. rw outside refl)
+start_number count fill = search arith
 
 -- a run: the tests before any event decide, or what is left to the event where it ended
 decided : (l : List (Bool × Refusal)) (rest : List Entry) → is_accepted (first_of_list l) ≡ false → given (entries l ++ rest) ≡ verdict_number (first_of_list l)
@@ -108,7 +104,7 @@ one_of_eight (suc (suc (suc (suc (suc (suc (suc (suc zero)))))))) chip channel v
 one_of_eight (suc (suc (suc (suc (suc (suc (suc (suc (suc kind))))))))) chip channel value s h = absurd (omega arith)
 
 apart : (kind k : ℕ) → 8 < kind → k ≤ 8 → eqb kind k ≡ false
-apart kind k h l = ne_eqb kind k (λ is. absurd (omega (arith, is)))
+apart kind k h l = search arith
 
 outside : (kind chip channel value : ℕ) (s : Chain) → 8 < kind → Told kind chip channel value s
 outside kind chip channel value s h =
@@ -185,8 +181,7 @@ run_number s bytes limit results = by (is_accepted (before_any s bytes results))
 
 -- the C search
 not_254 : (c : Option ℕ) → channel_of c < 8 → eqb (candidate_number c) 254 ≡ false
-not_254 (Some k) h = ne_eqb k 254 (λ is. absurd (omega (arith, is)))
-not_254 None h = refl
+not_254 c h = search arith
 
 search_number_lem : (irr imr isr mode pointer : ℕ) → eqb (search_number irr imr isr mode pointer) 254 ≡ ltb 7 pointer
 unfolding search_number

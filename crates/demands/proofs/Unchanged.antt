@@ -7,18 +7,14 @@ use mathlib.Core.Path.{◌≡◌, refl, ap, sym, ◌∙◌}
 use Prim.Native.Nat.{ℕ, ◌+◌, ◌*◌, ◌≤◌, min}
 use native.Mathlib.Omega.{arith}
 use lib.ListN.{get_or, length}
-use Rattle.refusal.specs.Numbers.{verdict_number, is_accepted}
-use Rattle.refusal.specs.Numbers.{Verdict}
-use Rattle.bits.proofs.Below.{either}
+use Rattle.refusal.specs.Numbers.{verdict_number, is_accepted, Verdict}
 use Rattle.refusal.specs.Answers.{Handed, handed}
 use Rattle.chain.specs.Events.{accepted, refused, judged, event_of}
 use Rattle.chain.specs.Fields.{zero_chain}
 use Rattle.chain.specs.Refusals.{verdict_of}
-use Rattle.chain.specs.Sound.{count_sound}
 use Rattle.chain.specs.Start.{start_of}
 use Rattle.chain.specs.declared.Chain.{Chain}
 use Rattle.event.specs.declared.Event.{Event}
-use Rattle.chain.specs.declared.Outcome.{Outcome}
 use Rattle.views.specs.Views.{register_view, pin_view}
 use Rattle.run.proofs.Before as before_any_lem
 use Rattle.run.proofs.Count.{no_more}
@@ -40,21 +36,16 @@ as_given (Ok tt) e s other = absurd (other (answers_zero e s))
 no_byte : (v : Verdict) (e : Event) (s : Chain) → ((handed (judged v e s).answer).number ≡ 0 → ⊥)
     → ((handed (judged v e s).answer).drove ≡ 0) × ((handed (judged v e s).answer).byte ≡ 0)
 unfolding judged accepted refused
-no_byte (Err why) e s other = (refl, refl)
-no_byte (Ok tt) e s other = absurd (other (answers_zero e s))
+no_byte v e s other = search arith
 
 -- a start
 no_start : (count fill : ℕ) → ((handed (start_of count fill).answer).number ≡ 0 → ⊥) → (start_of count fill).chain ≡ zero_chain
 unfolding start_of
-no_start count fill =
-    either (λ (o : Outcome). ((handed o.answer).number ≡ 0 → ⊥) → o.chain ≡ zero_chain) (count_sound count) _ _
-    (λ within other. absurd (other refl))
-    (λ outside other. refl)
+no_start count fill = search arith
 
 -- a view: it is refused where its number is not 0
 is_refused : (v : Verdict) → (verdict_number v ≡ 0 → ⊥) → is_accepted v ≡ false
-is_refused (Err why) other = refl
-is_refused (Ok tt) other = absurd (other refl)
+is_refused v other = search arith
 
 -- a run
 from_length : (bytes : List ℕ) (left n : ℕ) (s : Chain) (results : List ℕ) → length (run_from left bytes n s results).results ≡ length results

@@ -13,17 +13,15 @@ use lib.Dec.{eqb, lit<}
 use lib.ListN.{get_or, length}
 use lib.Seq.{get_or-set_same}
 use borrow.Author.Tests.{eqb-true, eqb-false, eq-eqb, not-true, leb-true}
-use Rattle.bits.proofs.Below.{digit_lt, either, both_left, both_right, every_each}
+use Rattle.bits.proofs.Below.{digit_lt, both_left, both_right, every_each}
 use Rattle.bits.specs.Below.{digit, every}
 use Rattle.bits.specs.Byte.{bit, is_waiting}
 use Rattle.order.specs.Order.{channel_at}
 use Rattle.search.proofs.Rotating.{place_of, candidate_at, candidate_exists, waiting-before, waiting_nearer}
 use Rattle.search.specs.Candidate.{candidate, exists}
 use Rattle.search.specs.Order.{last_of, first_waiting}
-use Rattle.refusal.proofs.Numbers.{not_both, accepted_is}
+use Rattle.refusal.proofs.Numbers.{not_both}
 use Rattle.refusal.specs.Numbers.{is_accepted}
-use Rattle.event.proofs.Told.{is_fall_lem}
-use Rattle.event.specs.Numbers.{is_fall}
 use Rattle.event.specs.declared.Event.{Event}
 use Rattle.event.specs.declared.Event.TheVariants.{Fall, Rise}
 use Rattle.chip.specs.Acknowledge.{answered}
@@ -33,9 +31,8 @@ use Rattle.chip.specs.Fields.{zero_chip}
 use Rattle.figure4.specs.Figure4.{is_reset}
 use Rattle.chip.specs.Status.{is_armed, is_polled, is_rotating, candidate_of, gint_active}
 use Rattle.chip.specs.declared.Chip.{Chip}
-use Rattle.response.specs.Held.{reply_of, is_idle, is_responding}
+use Rattle.response.specs.Held.{reply_of, is_idle, is_responding, Response}
 use Rattle.response.specs.declared.Reply.{Reply}
-use Rattle.response.specs.Held.{Response}
 use Rattle.decide.proofs.Rules.{changes}
 use Rattle.decide.proofs.Soundness.{selected_is}
 use Rattle.decide.specs.Decided.{decided}
@@ -43,7 +40,6 @@ use Rattle.decide.specs.Look.{unless_responding}
 use Rattle.decide.specs.Pulse.{driving, first_pulse, fallen}
 use Rattle.decide.specs.declared.Change.{Change}
 use Rattle.decide.specs.declared.Own.{Own}
-use Rattle.decide.specs.declared.Replaced.{Replaced}
 use Rattle.decide.specs.declared.Look.TheVariants.{Answering}
 use Rattle.chain.proofs.Acknowledge.{Answers, selected_answers, ei_high, reached_selected}
 use Rattle.chain.proofs.Rules.{chain_fields, applying}
@@ -69,29 +65,17 @@ record Waiting (c : Chip) (channel : ℕ) : Type 0 where
   request : is_waiting c.irr c.imr channel ≡ true
 
 waiting_parts : (c : Chip) (channel : ℕ) → waits c channel ≡ true → Waiting c channel
-waiting_parts c channel e =
-    let first = both_left (is_armed c && not (is_polled c) && is_rotating c) _ e in
-    let second = both_left (is_armed c && not (is_polled c)) _ first in
-    record {
-      armed = both_left (is_armed c) _ second;
-      interrupt = not-true (is_polled c) (both_right (is_armed c) _ second);
-      rotating = both_right (is_armed c && not (is_polled c)) _ first;
-      request = both_right (is_armed c && not (is_polled c) && is_rotating c) _ e;
-    }
+waiting_parts c channel e = search arith
 
 -- the pointer of chip i
 abbrev pub pointer_at : Chain → ℕ → ℕ
 pointer_at s i = (chip_at s i).pointer
 
 middle_false : (a x b : Bool) → a ≡ true → b ≡ true → a && x && b ≡ false → x ≡ false
-middle_false true true true ea eb e = e
-middle_false true false true ea eb e = refl
-middle_false true x false ea eb e = not_both eb
-middle_false false x b ea eb e = not_both ea
+middle_false a x b ea eb e = search arith
 
 last_false : (a b : Bool) → a ≡ true → a && b ≡ false → b ≡ false
-last_false true b ea e = e
-last_false false b ea e = not_both ea
+last_false a b ea e = search arith
 
 -- what is put in the place of chip i has its pointer
 module _ (s : Chain) (i : ℕ) where
@@ -137,8 +121,7 @@ in_list (c ∷ l) zero e = zero-lt-suc _
 in_list (c ∷ l) (suc i) e = suc-le-suc (in_list l i e)
 
 idle_is : (response : Response) → is_idle response ≡ true → response ≡ None
-idle_is None e = refl
-idle_is (Some r) e = not_both e
+idle_is response e = search arith
 
 -- chip i with another one put there
 pub put_there : (c : Change) (s : Chain) (i : ℕ) (new : Chip) → c.replaced ≡ Some (record { at = i; chip = new }) → is_armed (chip_at s i) ≡ true
@@ -194,9 +177,7 @@ other_nearer s r channel e h hc w v idle is other =
 
 -- an event that is no answer of the chip for another channel
 no_other : (fp : Bool) (response : Response) (i channel : ℕ) → fp && is_responding response i ≡ false → fp && is_for_another i channel response ≡ false
-no_other false response i channel e = refl
-no_other true None i channel e = refl
-no_other true (Some r) i channel e = ap (λ (b : Bool). b && not (eqb r.channel channel)) e
+no_other fp response i channel e = search arith
 
 -- the parts of a first pulse
 pub record FirstPulse (e : Event) (s : Chain) : Type 0 where
@@ -205,13 +186,7 @@ pub record FirstPulse (e : Event) (s : Chain) : Type 0 where
   pub idle : is_idle s.response ≡ true
 
 pub first_pulse_parts : (e : Event) (s : Chain) → is_first_pulse e s ≡ true → FirstPulse e s
-first_pulse_parts e s h =
-    let ok = both_left (is_fall e && is_accepted (verdict_of e s)) _ h in
-    record {
-      fall = is_fall_lem e (both_left (is_fall e) _ ok);
-      accepted_fall = accepted_is (verdict_of e s) (both_right (is_fall e) _ ok);
-      idle = both_right (is_fall e && is_accepted (verdict_of e s)) _ h;
-    }
+first_pulse_parts e s h = search arith
 
 -- one event of a wait: the request comes nearer by at least what the event answers for others
 abbrev pub Nearer : ℕ → ℕ → Event → Chain → Type 0

@@ -1,17 +1,17 @@
 -- What the types of the arrays say stays so in the definitions: events and runs keep a chain whole, and a start gives a whole one.
 -- Assumes nothing.
+use native.Mathlib.Omega.{arith}
 use Rattle.std.proofs.lemmas.Option.{IfSome_then}
 use Rattle.std.specs.Prelude.{Ok, Err, IfSome}
 use mathlib.Core.Bool.{Bool, true, false}
 use mathlib.Core.List.{List}
-use mathlib.Core.Path.{◌≡◌, refl, ap, sym, subst, ◌∙◌}
+use mathlib.Core.Path.{◌≡◌, refl, sym, subst, ◌∙◌}
 use Prim.Native.Nat.{ℕ, ◌≤◌, min}
 use lib.Dec.{eqb, ltb}
-use lib.ListN.{get_or, length, replicate, length-set, get_or-replicate}
+use lib.ListN.{length, replicate, length-set}
 use borrow.Author.Tests.{ltb-true, ltb-false}
 use Rattle.bits.proofs.Below.{either}
-use Rattle.bits.proofs.Stored.{get_d_past}
-use Rattle.bits.specs.Byte.{bit}
+use Rattle.std.proofs.lemmas.List.{get_or_past}
 use Rattle.refusal.specs.Numbers.{Verdict}
 use Rattle.event.specs.declared.Event.{Event}
 use Rattle.event.specs.Numbers.{Listed}
@@ -20,7 +20,7 @@ use Rattle.chip.specs.Acknowledge.{answered, finished}
 use Rattle.chip.specs.Command.{obey, commanded}
 use Rattle.chip.specs.Data.{data_written}
 use Rattle.chip.specs.Fields.{zero_chip}
-use Rattle.figure4.specs.Figure4.{figure4}
+use Rattle.figure4.specs.Figure4.{figure4, Meaning}
 use Rattle.chip.specs.Line.{line_set}
 use Rattle.chip.specs.Reset.{reset, power_up}
 use Rattle.chip.specs.declared.Chip.{Chip}
@@ -28,7 +28,6 @@ use Rattle.figure4.specs.declared.Command.{Command}
 use Rattle.figure4.specs.declared.Command.TheVariants.{Reset, ClearIrrAndImr, ClearIrrAndImrBit, ClearImr, ClearImrBit, SetImr, SetImrBit, ClearIrr, ClearIrrBit, SetIrr, SetIrrBit, ClearHighestIsr, ClearIsr, ClearIsrBit, LoadMode, LoadRead, LoadReadAndArm, LoadReadAndDisarm, PreselectImr, PreselectAcr, PreselectLevel}
 use Rattle.chip.specs.declared.Destination.{Destination}
 use Rattle.chip.specs.declared.Destination.TheVariants.{Nowhere, Imr, Acr, Level}
-use Rattle.figure4.specs.Figure4.{Meaning}
 use Rattle.decide.specs.Decided.{decided}
 use Rattle.decide.specs.declared.Seen.{Seen}
 use Rattle.chain.proofs.Kept.{applied_chips}
@@ -56,7 +55,7 @@ record AsLarge (c d : Chip) : Type 0 where
   memory : length d.memory ≡ length c.memory
 
 whole_as : (c d : Chip) → AsLarge c d → WholeChip c → WholeChip d
-whole_as c d large w = record { eight_codes = large.counts ∙ w.eight_codes; all_memory = large.memory ∙ w.all_memory }
+whole_as c d large w = search arith
 
 obeyed : (row : Command) (c : Chip) → AsLarge c (obey row c)
 unfolding chip_fields obey reset
@@ -96,16 +95,15 @@ written_as (Level level place) byte c = record { counts = refl; memory = length-
 
 line_as : (channel : ℕ) (high : Bool) (c : Chip) → AsLarge c (line_set channel high c)
 unfolding chip_fields line_set
-line_as channel high c = record { counts = refl; memory = refl }
+line_as channel high c = search arith
 
 answered_as : (channel : ℕ) (c : Chip) → AsLarge c (answered channel c)
 unfolding chip_fields answered
-answered_as channel c = record { counts = refl; memory = refl }
+answered_as channel c = search arith
 
 finished_as : (channel : ℕ) (c : Chip) → AsLarge c (finished channel c)
 unfolding chip_fields finished
-finished_as channel c =
-    either (AsLarge c) (bit c.acr channel) _ _ (λ auto. record { counts = refl; memory = refl }) (λ not-auto. record { counts = refl; memory = refl })
+finished_as channel c = search arith
 
 -- the chip that is put in a chip's place is as large as the one that is seen there
 decided_large : (e : Event) (v : Seen) → IfSome (decided e v).replaced (λ replaced. AsLarge v.chip replaced.chip)
@@ -124,7 +122,7 @@ decided_large e v =
 
 zero_whole : WholeChip zero_chip
 unfolding zero_chip
-zero_whole = record { eight_codes = refl; all_memory = refl }
+zero_whole = search arith
 
 -- every chip of a whole chain is whole, also what is seen past its records
 each_whole : (s : Chain) (i : ℕ) → Whole s → WholeChip (chip_at s i)
@@ -134,7 +132,7 @@ each_whole s i w = by (ltb i 8) refl
     by true below = w.whole_chips i (ltb-true i 8 below)
     by false past =
         let most : 8 ≤ i = ltb-false i 8 past in
-        subst WholeChip (sym (get_d_past s.chips i zero_chip (subst (λ (n : ℕ). n ≤ i) (sym w.eight_chips) most))) zero_whole
+        subst WholeChip (sym (get_or_past s.chips i zero_chip (subst (λ (n : ℕ). n ≤ i) (sym w.eight_chips) most))) zero_whole
 
 judged_whole : (v : Verdict) (e : Event) (s : Chain) → Whole s → Whole (judged v e s).chain
 unfolding decision seen_at counted chain_fields
@@ -165,15 +163,11 @@ run_whole s bytes limit results w =
 
 -- eight times the same whole chip
 eight : (c : Chip) (s : Chain) → s.chips ≡ replicate 8 c → WholeChip c → Whole s
-eight c s is w =
-    record {
-      eight_chips = ap length is;
-      whole_chips = λ i h. subst (λ (l : List Chip). WholeChip (get_or l i zero_chip)) (sym is) (subst WholeChip (sym (get_or-replicate 8 i c zero_chip h)) w);
-    }
+eight c s is w = search arith
 
 power_up_whole : (fill : ℕ) → WholeChip (power_up fill)
 unfolding chip_fields power_up reset
-power_up_whole fill = record { eight_codes = refl; all_memory = refl }
+power_up_whole fill = search arith
 
 -- a start, also a refused one
 pub start_whole : (count fill : ℕ) → Whole (start_of count fill).chain

@@ -1,9 +1,8 @@
 -- What a run does and counts (the rules paper, "Views and runs"). What a refused one leaves as it was: Unchanged.
 use Rattle.std.specs.Prelude.{Ok, Bool, true, cond, List, [], ◌∷◌, ◌≡◌, ℕ, ◌+◌, ◌*◌, ◌%◌, ◌≤◌, ◌<◌, min, eqb, get_or, length}
 use Rattle.bits.specs.Below.{digit}
-use Rattle.refusal.specs.Numbers.{is_accepted}
+use Rattle.refusal.specs.Numbers.{is_accepted, Answer}
 use Rattle.refusal.specs.Answers.{verdict_in, handed}
-use Rattle.refusal.specs.Numbers.{Answer}
 use Rattle.event.specs.Numbers.{in_numbers}
 use Rattle.event.specs.declared.Event.{Event}
 use Rattle.chain.specs.Events.{event_of}

@@ -9,13 +9,12 @@ use Rattle.refusal.specs.Numbers.{is_accepted}
 use Rattle.chain.specs.Events.{event_of}
 use Rattle.chain.specs.Refusals.{verdict_of}
 use Rattle.chain.specs.Fields.{chip_at}
-use Rattle.response.specs.Held.{is_idle}
+use Rattle.response.specs.Held.{is_idle, Response}
 use Rattle.chain.specs.Seen.{selected}
 use Rattle.chain.specs.Sound.{sound}
 use Rattle.chain.specs.declared.Chain.{Chain}
 use Rattle.event.specs.declared.Event.{Event}
 use Rattle.event.specs.Numbers.{in_numbers, is_kind, is_fall}
-use Rattle.response.specs.Held.{Response}
 use Rattle.demands.specs.Along.{along}
 
 -- a chip that is armed, in interrupt mode and in rotating priority, and a request on it that is latched and unmasked

@@ -1,4 +1,2 @@
+pub mod Laws
 pub mod Outcomes
-pub mod PageParts
-pub mod Pages
-pub mod Parts

@@ -24,10 +24,8 @@ use Rattle.refusal.proofs.Refusal.number.Reads as refusal_number_outcome
 use Rattle.refusal.proofs.is_accepted.Reads as verdict_is_accepted
 use Rattle.refusal.proofs.verdict_number.Reads as verdict_number_outcome
 use Rattle.refusal.specs.Answers.{verdict_in, handed}
-use Rattle.refusal.specs.Numbers.{refusal_number, verdict_number, is_accepted}
-use Rattle.refusal.specs.Numbers.{Answer}
+use Rattle.refusal.specs.Numbers.{refusal_number, verdict_number, is_accepted, Answer, Verdict}
 use Rattle.refusal.specs.declared.Refusal.{Refusal}
-use Rattle.refusal.specs.Numbers.{Verdict}
 use Rattle.event.specs.declared.Event.{Event}
 use Rattle.event.specs.declared.Event.TheVariants.{Command, Data, Status, Read, Line, Enable, Fall, Rise}
 use Rattle.chain.proofs.Chain.command.Reads as chain-command

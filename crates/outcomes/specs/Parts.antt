@@ -22,8 +22,7 @@ use Rattle.search.specs.Clear.{clear_highest}
 use Rattle.figure4.proofs.is_reset.Reads as is_reset_outcome
 use Rattle.figure4.proofs.is_undefined.Reads as is_undefined_outcome
 use Rattle.figure4.proofs.CommandTryFromU8.try_from.Reads as meaning_of_outcome
-use Rattle.figure4.specs.Figure4.{figure4, is_reset, undefined}
-use Rattle.figure4.specs.Figure4.{Meaning}
+use Rattle.figure4.specs.Figure4.{figure4, is_reset, undefined, Meaning}
 use Rattle.chip.proofs.Chip.candidate.Reads as chip_candidate
 use Rattle.chip.proofs.Chip.commanded.Reads as chip_commanded
 use Rattle.chip.proofs.Chip.fall.Reads as chip_fall
@@ -64,10 +63,9 @@ use Rattle.response.proofs.along.eo_of.Reads as response_eo_of
 use Rattle.response.proofs.held.is_idle.Reads as response_is_idle
 use Rattle.response.proofs.sound.is_sound.Reads as response_is_sound
 use Rattle.response.proofs.Walk.at_first.Reads as walk_at_first
-use Rattle.response.specs.Held.{ends_response, is_idle}
+use Rattle.response.specs.Held.{ends_response, is_idle, Response}
 use Rattle.response.specs.Sound.{response_sound}
 use Rattle.response.specs.Walk.{eo_of}
-use Rattle.response.specs.Held.{Response}
 use Rattle.decide.proofs.Look.of.Reads as look_of_outcome
 use Rattle.decide.proofs.Seen.command.Reads as seen_command
 use Rattle.decide.proofs.Seen.enable.Reads as seen_enable

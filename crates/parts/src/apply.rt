@@ -1,4 +1,5 @@
 // What an event looks at in an image, and an image with what is decided applied where it lies.
+// Written beside chain's own `apply`: the paper asks for a chain by value, C lends an image, and both are proved equal to one definition.
 #![tactic(auto, using(image::proofs::OneToOne::image_length))]
 
 ghost use Rattle.std.specs.Prelude.{true, IfSome, ◌≡◌, ◌<◌};

@@ -35,6 +35,8 @@ pub struct Pins {
     pub iack: u8,
 }
 
+// A verdict beside the record and no Result of it: the paper says what the fields of a refused view are (`register_view_outcome`, `pin_view_outcome`). And a type for each record: what is
+// claimed of a state names the fields of both (demands/specs/Agree).
 #[derive(Clone, Copy)]
 pub struct RegisterView {
     pub verdict: Verdict,
