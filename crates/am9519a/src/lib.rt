@@ -11,8 +11,8 @@ ghost use Rattle.am9519a.specs.Calls.{start_call, run_left, run_call, registers_
 use crate::shown::{chain_of, picture_bytes, put_view, table_bytes};
 use chain::Chain;
 use image::writing::put_chain;
-use refusal::sentences::{meaning_length, put_meaning};
 use refusal::answers::verdict_in;
+use refusal::sentences::{meaning_length, put_meaning};
 use refusal::{Refusal, is_accepted, verdict_number};
 use run::on_image::run_in;
 use search::{candidate_number, candidate_of};
@@ -23,6 +23,7 @@ pub fn am9519a_candidate(irr: u8, imr: u8, isr: u8, mode: u8, pointer: u8) -> u8
     ensures { result ≡ search_number irr imr isr mode pointer }
 {
     if pointer > 7 {
+        // The number of no refusal: a caller in C reads a channel here.
         return 254;
     }
     candidate_number(candidate_of(irr, imr, isr, mode, pointer))

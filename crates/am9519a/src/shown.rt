@@ -19,13 +19,14 @@ pub(crate) fn chain_of(image: &[u8]) -> Chain
     }
 }
 
-// A register view's nine bytes.
+// A register view's nine bytes. (C has the two views apart, each with its own bytes in its own order, so each has a function here and in lib.rt.)
 pub(crate) fn table_bytes(table: Registers) -> [u8; 9]
     ensures { result ≡ table_bytes table }
 {
+    let event = table.event.to_le_bytes();
     [
-        (table.event % 256) as u8,
-        (table.event / 256) as u8,
+        event[0],
+        event[1],
         table.irr,
         table.isr,
         table.imr,
@@ -40,9 +41,10 @@ pub(crate) fn table_bytes(table: Registers) -> [u8; 9]
 pub(crate) fn picture_bytes(picture: Pins) -> [u8; 8]
     ensures { result ≡ picture_bytes picture }
 {
+    let event = picture.event.to_le_bytes();
     [
-        (picture.event % 256) as u8,
-        (picture.event / 256) as u8,
+        event[0],
+        event[1],
         picture.ei,
         picture.eo,
         picture.gint,

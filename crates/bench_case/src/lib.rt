@@ -2,7 +2,8 @@
 #![tactic(auto)]
 
 use chain::{Chain, Outcome};
-use views::{PinView, RegisterView, pin_view, register_view};
+use refusal::{Answer, is_accepted};
+use views::{Pins, Registers, pin_view, register_view};
 
 #[derive(Clone, Copy)]
 pub struct Bench {
@@ -13,152 +14,123 @@ pub struct Bench {
 impl Bench {
     // A start, which must be accepted.
     pub fn start(count: u8, fill: u8) -> Bench {
-        let outcome = Chain::start(count, fill);
-        let answer = outcome.answer;
-        let chain = outcome.chain;
+        let Outcome { answer, chain } = Chain::start(count, fill);
         Bench {
-            chain: chain,
-            held: answer.number() == 0,
+            chain,
+            held: answer.is_ok(),
         }
     }
 
-    // The step after this outcome: held if it hands back this number, whether there is a byte, and the byte.
-    fn after(self, outcome: Outcome, number: u8, drove: u8, byte: u8) -> Bench {
-        let answer = outcome.answer;
-        let chain = outcome.chain;
+    // The step after this outcome, which must have this answer.
+    fn gives(self, outcome: Outcome, answer: Answer) -> Bench {
         Bench {
-            chain: chain,
-            held: self.held
-                & (answer.number() == number)
-                & (answer.drove() == drove)
-                & (answer.byte() == byte),
+            chain: outcome.chain,
+            held: self.held && outcome.answer == answer,
         }
     }
 
-    // Accepted, and no byte is driven or read.
-    fn accepted(self, outcome: Outcome) -> Bench {
-        self.after(outcome, 0, 0, 0)
-    }
-
-    // Accepted, and this byte is driven or read.
-    fn gives(self, outcome: Outcome, byte: u8) -> Bench {
-        self.after(outcome, 0, 1, byte)
-    }
-
-    // Refused by this number.
+    // The step after this outcome, refused by this number: the paper's cases name refusals by their numbers.
     fn refused(self, outcome: Outcome, number: u8) -> Bench {
-        self.after(outcome, number, 0, 0)
+        Bench {
+            chain: outcome.chain,
+            held: self.held && matches!(outcome.answer, Err(why) if why.number() == number),
+        }
     }
 
     // The events of the cases, each with what it must give.
     pub fn command(self, chip: u8, code: u8) -> Bench {
-        let outcome = self.chain.command(chip, code);
-        self.accepted(outcome)
+        self.gives(self.chain.command(chip, code), Ok(None))
     }
 
     pub fn command_refused(self, chip: u8, code: u8, number: u8) -> Bench {
-        let outcome = self.chain.command(chip, code);
-        self.refused(outcome, number)
+        self.refused(self.chain.command(chip, code), number)
     }
 
     pub fn data(self, chip: u8, byte: u8) -> Bench {
-        let outcome = self.chain.data(chip, byte);
-        self.accepted(outcome)
+        self.gives(self.chain.data(chip, byte), Ok(None))
     }
 
     pub fn data_refused(self, chip: u8, byte: u8, number: u8) -> Bench {
-        let outcome = self.chain.data(chip, byte);
-        self.refused(outcome, number)
+        self.refused(self.chain.data(chip, byte), number)
     }
 
     pub fn status(self, chip: u8, byte: u8) -> Bench {
-        let outcome = self.chain.status(chip);
-        self.gives(outcome, byte)
+        self.gives(self.chain.status(chip), Ok(Some(byte)))
     }
 
     pub fn read(self, chip: u8, byte: u8) -> Bench {
-        let outcome = self.chain.read(chip);
-        self.gives(outcome, byte)
+        self.gives(self.chain.read(chip), Ok(Some(byte)))
     }
 
     pub fn line(self, chip: u8, channel: u8, level: u8) -> Bench {
-        let outcome = self.chain.line(chip, channel, level);
-        self.accepted(outcome)
+        self.gives(self.chain.line(chip, channel, level), Ok(None))
     }
 
     pub fn line_refused(self, chip: u8, channel: u8, level: u8, number: u8) -> Bench {
-        let outcome = self.chain.line(chip, channel, level);
-        self.refused(outcome, number)
+        self.refused(self.chain.line(chip, channel, level), number)
     }
 
     pub fn enable(self, level: u8) -> Bench {
-        let outcome = self.chain.enable(level);
-        self.accepted(outcome)
+        self.gives(self.chain.enable(level), Ok(None))
     }
 
     pub fn fall(self, byte: u8) -> Bench {
-        let outcome = self.chain.fall();
-        self.gives(outcome, byte)
+        self.gives(self.chain.fall(), Ok(Some(byte)))
     }
 
     pub fn fall_stalls(self) -> Bench {
-        let outcome = self.chain.fall();
-        self.accepted(outcome)
+        self.gives(self.chain.fall(), Ok(None))
     }
 
     pub fn fall_refused(self, number: u8) -> Bench {
-        let outcome = self.chain.fall();
-        self.refused(outcome, number)
+        self.refused(self.chain.fall(), number)
     }
 
     pub fn rise(self) -> Bench {
-        let outcome = self.chain.rise();
-        self.accepted(outcome)
+        self.gives(self.chain.rise(), Ok(None))
     }
 
     // A field of a view has this value. A view that is refused shows nothing.
     pub fn irr(self, chip: u8, value: u8) -> Bench {
-        let view = register_view(self.chain, chip);
-        self.tabled(view, view.table.irr == value)
+        self.tabled(chip, |table| table.irr == value)
     }
 
     pub fn isr(self, chip: u8, value: u8) -> Bench {
-        let view = register_view(self.chain, chip);
-        self.tabled(view, view.table.isr == value)
+        self.tabled(chip, |table| table.isr == value)
     }
 
     pub fn imr(self, chip: u8, value: u8) -> Bench {
-        let view = register_view(self.chain, chip);
-        self.tabled(view, view.table.imr == value)
+        self.tabled(chip, |table| table.imr == value)
     }
 
     pub fn gint(self, chip: u8, value: u8) -> Bench {
-        let view = pin_view(self.chain, chip);
-        self.pictured(view, view.picture.gint == value)
+        self.pictured(chip, |picture| picture.gint == value)
     }
 
     pub fn ei(self, chip: u8, value: u8) -> Bench {
-        let view = pin_view(self.chain, chip);
-        self.pictured(view, view.picture.ei == value)
+        self.pictured(chip, |picture| picture.ei == value)
     }
 
     pub fn pause(self, value: u8) -> Bench {
-        let view = pin_view(self.chain, 0);
-        self.pictured(view, view.picture.pause == value)
+        self.pictured(0, |picture| picture.pause == value)
     }
 
-    fn tabled(self, view: RegisterView, so: bool) -> Bench {
-        let verdict = view.verdict;
-        self.shows(verdict.is_accepted() & so)
+    fn tabled<F: FnOnce(Registers) -> bool>(self, chip: u8, so: F) -> Bench
+        requires { F.IsAlwaysCallable so }
+    {
+        let view = register_view(self.chain, chip);
+        self.shows(is_accepted(view.verdict) && so(view.table))
     }
 
-    fn pictured(self, view: PinView, so: bool) -> Bench {
-        let verdict = view.verdict;
-        self.shows(verdict.is_accepted() & so)
+    fn pictured<F: FnOnce(Pins) -> bool>(self, chip: u8, so: F) -> Bench
+        requires { F.IsAlwaysCallable so }
+    {
+        let view = pin_view(self.chain, chip);
+        self.shows(is_accepted(view.verdict) && so(view.picture))
     }
 
     fn shows(mut self, so: bool) -> Bench {
-        self.held = self.held & so;
+        self.held &= so;
         self
     }
 
@@ -170,6 +142,6 @@ impl Bench {
 
     // The event number has rolled over to 0.
     pub fn rolled_over(self) -> bool {
-        self.held & (self.chain.event == 0)
+        self.held && self.chain.event == 0
     }
 }

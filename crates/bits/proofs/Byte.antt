@@ -70,7 +70,11 @@ pub bit-waiting : (irr imr k : ℕ) → imr < 256 → k < 8 → bit (bit_and irr
 bit-waiting irr imr k hm hk = bit-and irr (255 - imr) k ∙ ap (λ (b : Bool). bit irr k && b) (bit_not imr k hm hk)
 
 -- their number is a sum over eight channels
-pub waiting_sum : (irr imr : ℕ) → irr < 256 → imr < 256 → ones (bit_and irr (255 - imr)) ≡ waiting irr imr
-waiting_sum irr imr hi hm =
-    ones_sum (bit_and irr (255 - imr)) (omega (arith, and_le_l irr (255 - imr)))
+pub waiting_sum : (irr imr : ℕ) → bit_and irr (255 - imr) < 256 → imr < 256 → ones (bit_and irr (255 - imr)) ≡ waiting irr imr
+waiting_sum irr imr h hm =
+    ones_sum (bit_and irr (255 - imr)) h
     ∙ how_many-same 8 (bit (bit_and irr (255 - imr))) (is_waiting irr imr) (λ k l. bit-waiting irr imr k hm l)
+
+-- so of two bytes
+pub waiting_of_bytes : (irr imr : ℕ) → irr < 256 → imr < 256 → ones (bit_and irr (255 - imr)) ≡ waiting irr imr
+waiting_of_bytes irr imr hi hm = waiting_sum irr imr (omega (arith, and_le_l irr (255 - imr))) hm

@@ -37,7 +37,7 @@ pub fn digit_of(high: bool) -> u8
 }
 
 // The number of ones in IRR that are clear in IMR.
-#[tactic(auto, using(crate::proofs::Byte::waiting_sum))]
+#[tactic(auto, using(crate::proofs::Byte::waiting_of_bytes))]
 pub fn waiting_number(irr: u8, imr: u8) -> u8
     ensures { result ≡ waiting irr imr }
 {

@@ -4,27 +4,30 @@
 
 mod numbers;
 
+use numbers::{k1, k2, k3, k4, k5, k6, k7, k8, k9, k10, k11, k12, k13, k14};
 use std::io;
 
-// Writes the case's name, a space, and what became of it.
-fn say(rt: &impl Print, number: u8, held: bool) -> io::Result<()> {
-    let became = if held { "ok" } else { "differs" };
-    println!(rt; "K{number} {became}")
-}
-
+// Writes each case's name, a space, and what became of it.
 fn main(rt: HostRuntime) -> io::Result<()> {
-    say(&rt, 1, numbers::k1().held)?;
-    say(&rt, 2, numbers::k2().held)?;
-    say(&rt, 3, numbers::k3().held)?;
-    say(&rt, 4, numbers::k4().held)?;
-    say(&rt, 5, numbers::k5().held)?;
-    say(&rt, 6, numbers::k6().held)?;
-    say(&rt, 7, numbers::k7().held)?;
-    say(&rt, 8, numbers::k8().held)?;
-    say(&rt, 9, numbers::k9().held)?;
-    say(&rt, 10, numbers::k10().held)?;
-    say(&rt, 11, numbers::k11().held)?;
-    say(&rt, 12, numbers::k12())?;
-    say(&rt, 13, numbers::k13())?;
-    say(&rt, 14, numbers::k14().held)
+    let cases = [
+        k1().held,
+        k2().held,
+        k3().held,
+        k4().held,
+        k5().held,
+        k6().held,
+        k7().held,
+        k8().held,
+        k9().held,
+        k10().held,
+        k11().held,
+        k12(),
+        k13(),
+        k14().held,
+    ];
+    for (number, held) in (1..=14).zip(cases) {
+        let became = if held { "ok" } else { "differs" };
+        println!(rt; "K{number} {became}")?;
+    }
+    Ok(())
 }

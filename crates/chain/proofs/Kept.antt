@@ -52,6 +52,7 @@ applied_chips P c s k new old = set c.own (replaced_in c s) (put c.replaced new)
     set : (own : Option Own) (t : Chain) → P (chip_at t k) → P (chip_at (setting_in own t) k)
     set (Some own) t h = h
     set None t h = h
+
     put : (replaced : Option Replaced) → IfSome replaced (λ replaced. P replaced.chip) → P (chip_at (replacing_in replaced s) k)
     put (Some r) new =
         ⊎_elim (λ is. subst P (sym is) new) (λ is. subst P (sym is) old) (stored s.chips r.at k r.chip zero_chip)
@@ -64,6 +65,7 @@ applied_count c s = set c.own (replaced_in c s) ∙ put c.replaced
     set : (own : Option Own) (t : Chain) → (setting_in own t).count ≡ t.count
     set (Some own) t = refl
     set None t = refl
+
     put : (replaced : Option Replaced) → (replacing_in replaced s).count ≡ s.count
     put (Some replaced) = refl
     put None = refl
@@ -80,6 +82,7 @@ applied_response c s new old = set c.own (replaced_in c s) new (put c.replaced)
         → response_sound s.count (setting_in own t).iack (setting_in own t).response ≡ true
     set (Some own) t new old = new
     set None t new old = old
+
     put : (replaced : Option Replaced) → response_sound s.count (replacing_in replaced s).iack (replacing_in replaced s).response ≡ true
     put (Some replaced) = old
     put None = old

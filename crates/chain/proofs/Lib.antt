@@ -1,5 +1,6 @@
 pub mod Acknowledge
 pub mod Along
+mod Each
 pub mod Judged
 pub mod Kept
 pub mod Number

@@ -24,6 +24,7 @@ applied_number c s = set c.own (replaced_in c s) ∙ put c.replaced
     set : (own : Option Own) (t : Chain) → (setting_in own t).event ≡ t.event
     set (Some own) t = refl
     set None t = refl
+
     put : (replaced : Option Replaced) → (replacing_in replaced s).event ≡ s.event
     put (Some replaced) = refl
     put None = refl

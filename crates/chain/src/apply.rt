@@ -58,6 +58,7 @@ impl Chain {
     }
 
     // What is decided.
+    #[tactic(auto, unfolding(crate::specs::Apply::applied))]
     pub(crate) fn applied(self, change: Change) -> Chain
         ensures { result ≡ applied change self }
     {

@@ -68,6 +68,7 @@ impl Chain {
     }
 
     // Any of the eight.
+    #[tactic(auto, unfolding(crate::specs::Events::event_of, crate::specs::Events::judged, crate::specs::Refusals::verdict_of))]
     pub fn on(self, e: Event) -> Outcome
         ensures { result ≡ event_of e self }
     {
@@ -78,6 +79,7 @@ impl Chain {
     }
 
     // Any of the eight on a chain that is known to be sound.
+    #[tactic(auto, using(crate::proofs::Judged::seen_asked, crate::proofs::Judged::is_accepted_lem, crate::proofs::Judged::is_refused))]
     fn on_sound(self, e: Event) -> Outcome
         requires { sound self ≡ true }
         ensures { result ≡ event_of e self }

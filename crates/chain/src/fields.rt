@@ -39,18 +39,18 @@ impl Chain {
     }
 
     // The chain with chip i replaced; past the eight records nothing is.
+    #[tactic(auto, unfolding(crate::specs::Fields::with_chip, crate::specs::Fields::with_chips), using(std::proofs::lemmas::List::set_past))]
     pub(crate) fn with_chip(mut self, i: u8, chip: Chip) -> Chain
         ensures { result ≡ with_chip i chip self }
     {
-        let n = i as usize;
-        if n >= 8 {
-            return self;
+        if i < 8 {
+            self.chips[i as usize] = chip;
         }
-        self.chips[n] = chip;
         self
     }
 
     // The chain with its own fields set: Enable In, IACK and the response.
+    #[tactic(auto, unfolding(crate::specs::Fields::with_own))]
     pub(crate) fn with_own(mut self, enable: bool, iack: bool, response: Response) -> Chain
         ensures { result ≡ with_own enable iack response self }
     {
@@ -61,6 +61,7 @@ impl Chain {
     }
 
     // The chain with one more accepted event counted.
+    #[tactic(auto, unfolding(crate::specs::Apply::counted, crate::specs::Fields::with_event))]
     pub(crate) fn counted(mut self) -> Chain
         ensures { result ≡ counted self }
     {
@@ -80,6 +81,7 @@ impl Chain {
     }
 
     // What a refused event hands back: the chain as given.
+    #[tactic(auto, unfolding(crate::specs::Events::refused))]
     pub(crate) fn refused(self, why: Refusal) -> Outcome
         ensures { result ≡ refused why self }
     {

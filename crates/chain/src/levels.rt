@@ -13,14 +13,11 @@ impl Chain {
     fn walked(self, to: u8) -> Walk
         ensures { result ≡ walked_to self to }
     {
-        let mut walk = Walk::at_first(self.enable);
-        for i in 0..to {
-            walk = walk.past(self.chip_at(i), self.response);
-        }
-        walk
+        Walk::along(self.enable, to, self.response, |i| self.chip_at(i))
     }
 
     // EI of chip 0 is the chain's; EI of another is EO of the chip before.
+    #[tactic(auto, unfolding(crate::specs::Walk::walked_to))]
     pub fn ei(self, i: u8) -> bool
         ensures { result ≡ ei self i }
     {
@@ -28,6 +25,7 @@ impl Chain {
     }
 
     // From chip 0, while EI is high, the first chip with M2 clear and a candidate; the count if no chip answers.
+    #[tactic(auto, unfolding(crate::specs::Walk::walked_to, crate::specs::Walk::answering_chip))]
     pub(crate) fn answering_chip(self) -> u8
         ensures { result ≡ answering_chip self }
     {

@@ -18,18 +18,14 @@ impl Chain {
         ensures { result ≡ sound self }
     {
         is_count(self.count)
-            && self.has_sound_chips() & response::sound::is_sound(self.response, self.count, self.iack)
+            && self.has_sound_chips()
+                & response::sound::is_sound(self.response, self.count, self.iack)
     }
 
     // Each chip in the count.
     fn has_sound_chips(self) -> bool
         ensures { result ≡ chips_sound self }
     {
-        for i in 0..self.count {
-            if !self.chip_at(i).is_sound() {
-                return false;
-            }
-        }
-        true
+        (0..self.count).all(|i| self.chip_at(i).is_sound())
     }
 }

@@ -9,6 +9,7 @@ use refusal::Refusal;
 
 impl Chain {
     // The chain at the start, or the all-zero chain and refusal 1 where the count is outside 1 to 8.
+    #[tactic(auto, unfolding(crate::specs::Start::start_of))]
     pub fn start(count: u8, fill: u8) -> Outcome
         ensures { result ≡ start_of count fill }
     {

@@ -1,128 +1,57 @@
-// What the programs share: standard input line by line, in pieces, so that memory does not grow with it; standard output; and what is told on standard error.
+// What the programs share: an input line by line, in memory that does not grow with it; what fails when they read and write; and what is told on standard error.
 // These are steps of programs, over std's readers and printers, which `main` hands them: they are proved to be safe and to end, and no more.
 #![tactic(auto)]
 
 use std::fmt::Display;
-use std::io::{Cursor, Error, Read, Write};
+use std::io::{BufRead, Cursor, Error, Read, Result, Write};
 use text::put::put;
-use text::words::{first, line_end};
+use text::words::first;
 
-// What a step of reading has come to: nothing yet, a whole line, the end of the input behind the last line, or a failure, which has been told.
+// A line of an input, without its line feed: one with a line feed behind it, or the last one, behind which the input ends.
 #[derive(Clone, Copy)]
-pub enum Reached {
-    Nothing,
-    Line,
-    End,
-    Failure,
+pub enum Line<'a> {
+    Whole(&'a [u8]),
+    Last(&'a [u8]),
 }
 
-// How far the reading has come: how much of the next line has been put together, and how many bytes of the piece, the last ones before a place, are left.
-#[derive(Clone, Copy)]
-pub struct Input {
-    pub filled: usize,
-    pub left: usize,
-    pub to: usize,
-    pub reached: Reached,
+// The next line that `from` reads, put into `room`. A line that fills its room, of so many bytes with its line feed, is taken for a whole one: it is longer than a line may be,
+// and nothing of what is behind it is read.
+pub fn next_line<'a>(
+    from: &mut impl BufRead,
+    most: usize,
+    room: &'a mut Vec<u8>,
+) -> Result<Line<'a>> {
+    room.clear();
+    from.by_ref().take(most as u64).read_until(b'\n', room)?;
+    let line = room.as_slice();
+    Ok(match line.strip_suffix(b"\n") {
+        Some(whole) => Line::Whole(whole),
+        None if line.len() < most => Line::Last(line),
+        None => Line::Whole(line),
+    })
 }
 
-impl Input {
-    // Before the first byte.
-    pub fn new() -> Input {
-        Input {
-            filled: 0,
-            left: 0,
-            to: 0,
-            reached: Reached::Nothing,
-        }
-    }
-
-    // A step further: the next piece of what `from` reads, or the bytes up to the next line feed put to the line. A line that fills its room is taken for a whole one: it is
-    // longer than a line may be, and has room for one byte more than that.
-    pub fn step(
-        self,
-        from: &mut impl Read,
-        piece: &mut [u8],
-        line: &mut [u8],
-        errors: &impl Print,
-        name: &[u8],
-    ) -> Input {
-        let left = self.left;
-        let to = self.to;
-        let begun = self.begun();
-        if left == 0 {
-            return fetch(begun, from, piece, errors, name);
-        }
-        if left > to {
-            return lost(errors, name);
-        }
-        if to > piece.len() {
-            return lost(errors, name);
-        }
-        let part = &piece[to - left..to];
-        let n = line_end(part);
-        let filled = put(line, begun, &part[0..n]);
-        if n < left {
-            return at(filled, left - n - 1, to, Reached::Line);
-        }
-        if filled >= line.len() {
-            return at(filled, 0, to, Reached::Line);
-        }
-        at(filled, 0, to, Reached::Nothing)
-    }
-
-    // How much of the next line there is already: nothing, behind a line that was whole.
-    fn begun(self) -> usize {
-        let reached = self.reached;
-        match reached {
-            Reached::Nothing => self.filled,
-            Reached::Line => 0,
-            Reached::End => 0,
-            Reached::Failure => 0,
-        }
-    }
+// What a program cannot go on without.
+#[derive(Drop)]
+pub enum Failure {
+    Input(Error),
+    Output(Error),
 }
 
-fn at(filled: usize, left: usize, to: usize, reached: Reached) -> Input {
-    Input {
-        filled: filled,
-        left: left,
-        to: to,
-        reached: reached,
-    }
-}
-
-// The next piece of the input, or its end.
-fn fetch(
-    filled: usize,
-    from: &mut impl Read,
-    piece: &mut [u8],
-    errors: &impl Print,
-    name: &[u8],
-) -> Input {
-    match from.read(piece) {
-        Ok(0) => at(filled, 0, 0, Reached::End),
-        Ok(to) => at(filled, to, to, Reached::Nothing),
-        Err(error) => {
-            fail(errors, name, b"standard input", &error);
-            at(0, 0, 0, Reached::Failure)
-        }
-    }
-}
-
-// A place outside a buffer: no run comes here, and one that did would not pass for one that read its input to the end.
-fn lost(errors: &impl Print, name: &[u8]) -> Input {
-    tell(errors, name, b"lost its place\n");
-    at(0, 0, 0, Reached::Failure)
-}
-
-// Writes what has been printed, and answers whether it could; if not, that has been told.
-pub fn hand_on(to: &impl Print, printed: &[u8], errors: &impl Print, name: &[u8]) -> bool {
-    match to.write_all(printed) {
-        Ok(()) => true,
-        Err(error) => {
-            fail(errors, name, b"standard output", &error);
-            false
-        }
+impl Failure {
+    // Says what failed, and the system's word for it.
+    pub fn tell(&self, errors: &impl Print, name: &[u8]) {
+        let (what, error): (&[u8], &Error) = match self {
+            Failure::Input(error) => (b"standard input: ", error),
+            Failure::Output(error) => (b"standard output: ", error),
+        };
+        let mut words = [0u8; 256];
+        let length = put_word(&mut words, error);
+        let mut told = [0u8; 512];
+        let next = put(&mut told, 0, what);
+        let next = put(&mut told, next, first(&words, length));
+        let next = put(&mut told, next, b"\n");
+        tell(errors, name, first(&told, next));
     }
 }
 
@@ -134,19 +63,8 @@ pub fn tell(errors: &impl Print, name: &[u8], message: &[u8]) {
     let _ = errors.write_all(message);
 }
 
-// What failed, and the system's word for it.
-fn fail(errors: &impl Print, name: &[u8], what: &[u8], error: &Error) {
-    let mut words = [0u8; 256];
-    let length = put_word(&mut words, error);
-    let mut told = [0u8; 512];
-    let next = put(&mut told, 0, what);
-    let next = put(&mut told, next, b": ");
-    let next = put(&mut told, next, first(&words, length));
-    let next = put(&mut told, next, b"\n");
-    tell(errors, name, first(&told, next));
-}
-
 // The system's word for an error: what std prints for it, without the number of the error, which std puts behind it in brackets. Hands back how long it is.
+// Into memory that is there already: what is told when memory has run out takes none.
 fn put_word(words: &mut [u8], error: &Error) -> usize {
     let whole = put_shown(words, error);
     match error.raw_os_error() {

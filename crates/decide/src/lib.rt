@@ -25,6 +25,7 @@ pub enum Look {
 }
 
 // What an event looks at: the chain's own fields, and a chip with its number; the count where there is no such chip.
+// That number and no Option: "chip not below the count" is a test of the table, and it reads the number as it is (`no_such_chip`).
 #[derive(Clone, Copy)]
 pub struct Seen {
     pub count: u8,

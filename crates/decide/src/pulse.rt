@@ -10,6 +10,7 @@ use response::{Reply, Response};
 
 impl Seen {
     // What a first pulse selects: the candidate of the chip that answers, or nothing, and the pulse stalls.
+    #[tactic(auto, unfolding(crate::specs::Pulse::selected_by), using(crate::proofs::Soundness::seen_chip))]
     fn selected(self) -> Response
         requires { seen_sound self ≡ true }
         ensures { result ≡ selected_by self }
@@ -43,6 +44,7 @@ impl Seen {
     }
 
     // A first pulse: the selected chip answers, or the pulse stalls: accepted, no byte.
+    #[tactic(auto, unfolding(crate::specs::Pulse::first_pulse))]
     fn first_pulse(self) -> Change
         requires { seen_sound self ≡ true }
         ensures { result ≡ first_pulse (selected_by self) self }
@@ -54,6 +56,7 @@ impl Seen {
     }
 
     // IACK falls: with a response under way its chip drives the next byte; otherwise it is a first pulse.
+    #[tactic(auto, unfolding(crate::specs::Decided::decided, crate::specs::Pulse::fallen))]
     pub fn fall(self) -> Change
         requires sound_seen { seen_sound self ≡ true }
         requires iack_high { self.iack ≡ true }

@@ -1,4 +1,5 @@
 // When an event on a sound chain is refused: the tests of the table, in its order, over what the event looks at.
+// Each takes the numbers that it tests and no `Seen`: it is promised of any of them (`OnePart`), and a view asks for one of the tests too.
 ghost use Rattle.std.specs.Prelude.{not, [], ◌∷◌, ◌≡◌};
 ghost use Rattle.refusal.specs.Numbers.{first_of_list};
 ghost use Rattle.decide.specs.Refusals.{no_such_chip, no_such_channel, no_such_level, pulse_under_way, iack_there_already, undefined_command, no_destination, past_its_count, verdict_on};
@@ -82,16 +83,23 @@ pub fn level_verdict(level: u8) -> Verdict
     refused_if(level > 1, Refusal::NoSuchLevel)
 }
 
+// IACK takes the level at which it is already.
+fn iack_verdict(there: bool) -> Verdict
+    ensures { result ≡ first_of_list (iack_there_already there ∷ []) }
+{
+    refused_if(there, Refusal::IackThereAlready)
+}
+
 // IACK falls: it is low already.
 pub fn fall_verdict(iack: bool) -> Verdict
     ensures { result ≡ first_of_list (iack_there_already (not iack) ∷ []) }
 {
-    refused_if(!iack, Refusal::IackThereAlready)
+    iack_verdict(!iack)
 }
 
 // IACK rises: it is high already.
 pub fn rise_verdict(iack: bool) -> Verdict
     ensures { result ≡ first_of_list (iack_there_already iack ∷ []) }
 {
-    refused_if(iack, Refusal::IackThereAlready)
+    iack_verdict(iack)
 }

@@ -10,7 +10,7 @@ use Prim.Native.Nat.{ℕ, min}
 use lib.Dec.{eqb}
 use lib.ListN.{length, replicate, length-set}
 use Rattle.bits.proofs.Below.{either}
-use Rattle.bits.proofs.Stored.{get_d_past}
+use Rattle.std.proofs.lemmas.List.{get_or_past}
 use Rattle.refusal.specs.Numbers.{Verdict}
 use Rattle.event.specs.declared.Event.{Event}
 use Rattle.event.specs.Numbers.{Listed}
@@ -100,7 +100,7 @@ zero_whole = search arith
 
 -- every chip of a whole chain is whole, also what is seen past its records
 each_whole : (s : Chain) (i : ℕ) → Whole s → WholeChip (chip_at s i)
-each_whole s i w = search (arith, get_d_past, zero_whole)
+each_whole s i w = search (arith, get_or_past, zero_whole)
 
 judged_whole : (v : Verdict) (e : Event) (s : Chain) → Whole s → Whole (judged v e s).chain
 unfolding decision seen_at counted chain_fields

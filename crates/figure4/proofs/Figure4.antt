@@ -4,7 +4,7 @@ use Rattle.std.specs.Prelude.{Ok, Err}
 use mathlib.Core.Bool.{Bool, true, false, not, cond, ◌&&◌, ◌||◌, false≢true}
 use mathlib.Core.Path.{◌≡◌, refl, ap, sym, ◌∙◌}
 use Prim.Native.Nat.{ℕ, ◌/◌, ◌%◌, ◌≤◌, ◌<◌}
-use native.Mathlib.Nat.{mod-lt}
+use native.Mathlib.Nat.{mod-lt, mod-eq_of_lt}
 use native.Mathlib.Omega.{arith}
 use lib.Dec.{eqb, ltb, lit<}
 use borrow.Author.Tests.{le-leb, lt-leb, lt-ltb, ltb-true, ltb-false, ne_eqb, not-true}
@@ -180,6 +180,11 @@ read_and_arm_lt = row_lt LoadReadAndArm 4 (λ m. refl)
 
 pub read_and_disarm_lt : (code m : ℕ) (row : Command) → figure4 code ≡ Ok row → row ≡ LoadReadAndDisarm m → m < 4
 read_and_disarm_lt = row_lt LoadReadAndDisarm 4 (λ m. refl)
+
+-- so a remainder by that width leaves it as it is
+pub row_narrow : (kind : ℕ → Command) (width : ℕ) → ((m : ℕ) → row_fits (kind m) ≡ ltb m width)
+    → (code m : ℕ) (row : Command) → figure4 code ≡ Ok row → row ≡ kind m → m % width ≡ m
+row_narrow kind width wide code m row e is = mod-eq_of_lt (row_lt kind width wide code m row e is)
 
 -- a preselected level is below 8, its count code below 4
 pub preselected : (code count level : ℕ) (row : Command) → figure4 code ≡ Ok row → row ≡ PreselectLevel count level

@@ -181,6 +181,7 @@ does e s v c answer after is here told by answers leaves = (answers ∙ ap (λ (
   where
     v-enough : Enough e v (seen_by e s)
     v-enough = enough e s v is here
+
     same : accepted c s ≡ event_of e s
     same =
         ap (λ (c : Change). accepted c s) (by ∙ v-enough.change told) ∙ sym (is_accepted_lem e s (seen_by e s) refl here (sym v-enough.verdict ∙ told))

@@ -130,6 +130,7 @@ fn put_expected(to: &mut [u8], at: usize, expected: Expected) -> usize
 }
 
 // The argument that was expected, and the form of its step.
+#[tactic(auto, using(steps::proofs::InARow::in_a_row))]
 fn put_wanted(to: &mut [u8], at: usize, kind: u8, argument: Argument) -> usize
     ensures { (to.new, result) ≡ written (to.old, at) (joined (wanted_parts kind argument)) }
 {
@@ -141,6 +142,7 @@ fn put_wanted(to: &mut [u8], at: usize, kind: u8, argument: Argument) -> usize
 }
 
 // A step's name, and the names of its arguments.
+#[tactic(auto, using(steps::proofs::InARow::in_a_row))]
 fn put_form(to: &mut [u8], at: usize, kind: u8) -> usize
     ensures { (to.new, result) ≡ written (to.old, at) (joined (form_parts kind (form_of kind))) }
 {

@@ -12,17 +12,16 @@ fn channel_at(last: u8, place: u8) -> u8
     (last % 8 + 1 + place % 8) % 8
 }
 
-// The first channel set in `x`, in the order that ends with `last`; 255 for an empty byte.
-// A number and no Option: 255 for none is the paper's (`first_channel` in specs/), and `an_empty_byte_is_254` stands on it.
+// The first channel set in `x`, in the order that ends with `last`; an empty byte has none.
 #[tactic(auto, using(crate::proofs::Turned::first_turned))]
-pub fn first_channel(last: u8, x: u8) -> u8
+pub fn first_channel(last: u8, x: u8) -> Option<u8>
     ensures { result ≡ first_channel last x }
 {
     if x == 0 {
-        return 255;
+        return None;
     }
     // The byte twice over, from the channel that starts the order: bit n of that is the channel at place n.
     let twice = u16::from(x) * 257;
     let turned = twice >> channel_at(last, 0);
-    channel_at(last, turned.trailing_zeros() as u8)
+    Some(channel_at(last, turned.trailing_zeros() as u8))
 }

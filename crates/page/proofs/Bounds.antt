@@ -10,10 +10,9 @@ use lib.Dec.{eqb}
 use lib.ListN.{length, length-append}
 use Rattle.chain.proofs.Soundness.{count_le}
 use Rattle.chain.specs.Sound.{sound}
-use Rattle.refusal.specs.Numbers.{Answer}
+use Rattle.refusal.specs.Numbers.{Answer, is_accepted}
 use Rattle.chain.specs.declared.Chain.{Chain}
 use Rattle.page.specs.Page.{gint_field, heading, chip_pins, chain_pins, pins_parts, request_bytes, state_fields, registers_parts, pins_line, registers_line, chip_lines, chips_from, byte_text, event_parts, page_of}
-use Rattle.refusal.specs.Numbers.{is_accepted}
 use Rattle.event.specs.declared.Numbered.{Numbered}
 use Rattle.steps.proofs.Bounds.{spelled_le}
 use Rattle.text.proofs.Fits.{joined_le, numbered_le, field_le, byte_le}

@@ -1,7 +1,6 @@
 -- What a page says of a state: the event with its step, and for each chip in the count its pins and its registers, with one event number.
 use Rattle.std.specs.Prelude.{Some, None, Ok, Err, cond, List, [], ◌∷◌, ◌++◌, ℕ, zero, suc, ◌+◌, eqb}
-use Rattle.refusal.specs.Numbers.{is_accepted}
-use Rattle.refusal.specs.Numbers.{Answer}
+use Rattle.refusal.specs.Numbers.{is_accepted, Answer}
 use Rattle.chain.specs.declared.Chain.{Chain}
 use Rattle.event.specs.declared.Numbered.{Numbered}
 use Rattle.steps.specs.Spelled.{spelled}

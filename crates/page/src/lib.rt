@@ -17,6 +17,7 @@ use text::put::{put, put_byte_field, put_field};
 use views::{pin_view, register_view};
 
 // The page after an accepted step, from its line of the list.
+#[tactic(auto, using(steps::proofs::InARow::in_a_row), unfolding(crate::specs::Page::page_of))]
 pub fn put_page(
     to: &mut [u8],
     at: usize,
@@ -52,7 +53,7 @@ fn put_event(
 }
 
 // The byte that an answer has.
-#[tactic(auto, using(text::proofs::Written::one_after_the_other, text::proofs::Written::written_none))]
+#[tactic(auto, using(text::proofs::Written::written_none))]
 fn put_byte(to: &mut [u8], at: usize, answer: Answer) -> usize
     ensures { (to.new, result) ≡ written (to.old, at) (byte_text answer) }
 {
@@ -62,7 +63,7 @@ fn put_byte(to: &mut [u8], at: usize, answer: Answer) -> usize
     }
 }
 
-// Two lines for each chip in the count.
+// Two lines for each chip in the count, with its number.
 #[tactic(auto, using(crate::proofs::Chips::chips_more, crate::proofs::Chips::chips_end))]
 fn put_chips(to: &mut [u8], at: usize, chain: Chain) -> usize
     ensures { (to.new, result) ≡ written (to.old, at) (chips_from chain.count 0 chain) }
@@ -75,7 +76,7 @@ fn put_chips(to: &mut [u8], at: usize, chain: Chain) -> usize
 }
 
 // The two lines of a chip are its two views.
-#[tactic(auto, using(text::proofs::Written::one_after_the_other, text::proofs::Written::written_none))]
+#[tactic(auto, using(steps::proofs::InARow::in_a_row))]
 fn put_chip(to: &mut [u8], at: usize, i: u8, chain: Chain) -> usize
     ensures { (to.new, result) ≡ written (to.old, at) (chip_lines i chain) }
 {

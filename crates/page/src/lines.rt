@@ -6,8 +6,9 @@ ghost use Rattle.text.specs.Written.{joined, written};
 use text::put::{put, put_byte_field, put_field};
 use views::{PinView, Pins, RegisterView, Registers};
 
+// The two lines have a function each, and no one for both: the views' types share no field but the verdict, and a trait for them would be longer than the second function.
 // The line of the pins, from the pin view.
-#[tactic(auto, using(text::proofs::Written::one_after_the_other, text::proofs::Written::written_none), unfolding(crate::specs::Page::pins_line))]
+#[tactic(auto, using(text::proofs::Written::written_none), unfolding(crate::specs::Page::pins_line))]
 pub(crate) fn put_pins_line(to: &mut [u8], at: usize, i: u8, view: PinView) -> usize
     ensures { (to.new, result) ≡ written (to.old, at) (pins_line i view) }
 {
@@ -18,7 +19,7 @@ pub(crate) fn put_pins_line(to: &mut [u8], at: usize, i: u8, view: PinView) -> u
 }
 
 // The line of the registers, from the register view.
-#[tactic(auto, using(text::proofs::Written::one_after_the_other, text::proofs::Written::written_none), unfolding(crate::specs::Page::registers_line))]
+#[tactic(auto, using(text::proofs::Written::written_none), unfolding(crate::specs::Page::registers_line))]
 pub(crate) fn put_registers_line(to: &mut [u8], at: usize, i: u8, view: RegisterView) -> usize
     ensures { (to.new, result) ≡ written (to.old, at) (registers_line i view) }
 {
@@ -28,6 +29,7 @@ pub(crate) fn put_registers_line(to: &mut [u8], at: usize, i: u8, view: Register
     }
 }
 
+#[tactic(auto, using(steps::proofs::InARow::in_a_row))]
 fn put_pins(to: &mut [u8], at: usize, i: u8, pins: Pins) -> usize
     ensures { (to.new, result) ≡ written (to.old, at) (joined (pins_parts i pins)) }
 {
@@ -37,6 +39,7 @@ fn put_pins(to: &mut [u8], at: usize, i: u8, pins: Pins) -> usize
     put(to, next, b"\n")
 }
 
+#[tactic(auto, using(steps::proofs::InARow::in_a_row))]
 fn put_registers(to: &mut [u8], at: usize, i: u8, registers: Registers) -> usize
     ensures { (to.new, result) ≡ written (to.old, at) (joined (registers_parts i registers)) }
 {
@@ -47,6 +50,7 @@ fn put_registers(to: &mut [u8], at: usize, i: u8, registers: Registers) -> usize
 }
 
 // Which line, of which event and chip.
+#[tactic(auto, using(steps::proofs::InARow::in_a_row))]
 fn put_heading(to: &mut [u8], at: usize, name: &[u8], event: u16, i: u8) -> usize
     ensures { (to.new, result) ≡ written (to.old, at) (joined (heading name.now event i)) }
 {
@@ -54,6 +58,7 @@ fn put_heading(to: &mut [u8], at: usize, name: &[u8], event: u16, i: u8) -> usiz
     put_field(to, next, b" chip ", i as u64)
 }
 
+#[tactic(auto, using(steps::proofs::InARow::in_a_row))]
 fn put_chip_pins(to: &mut [u8], at: usize, pins: Pins) -> usize
     ensures { (to.new, result) ≡ written (to.old, at) (joined (chip_pins pins)) }
 {
@@ -73,6 +78,7 @@ fn put_gint(to: &mut [u8], at: usize, gint: u8) -> usize
     }
 }
 
+#[tactic(auto, using(steps::proofs::InARow::in_a_row))]
 fn put_chain_pins(to: &mut [u8], at: usize, pins: Pins) -> usize
     ensures { (to.new, result) ≡ written (to.old, at) (joined (chain_pins pins)) }
 {
@@ -81,6 +87,7 @@ fn put_chain_pins(to: &mut [u8], at: usize, pins: Pins) -> usize
     put_field(to, next, b" IACK ", pins.iack as u64)
 }
 
+#[tactic(auto, using(steps::proofs::InARow::in_a_row))]
 fn put_requests(to: &mut [u8], at: usize, registers: Registers) -> usize
     ensures { (to.new, result) ≡ written (to.old, at) (joined (request_bytes registers)) }
 {
@@ -90,6 +97,7 @@ fn put_requests(to: &mut [u8], at: usize, registers: Registers) -> usize
     put_byte_field(to, next, b" ACR ", registers.acr)
 }
 
+#[tactic(auto, using(steps::proofs::InARow::in_a_row))]
 fn put_state(to: &mut [u8], at: usize, registers: Registers) -> usize
     ensures { (to.new, result) ≡ written (to.old, at) (joined (state_fields registers)) }
 {

@@ -2,131 +2,47 @@
 // What a line says and what it prints is proved in steps, page and report. Here each line of the input is handed to the report, and what it prints is handed on at once.
 #![tactic(auto)]
 
-use console::{Input, Reached, hand_on, tell};
-use report::{Course, Report};
-use std::io::Read;
+use console::{Failure, Line, next_line, tell};
+use report::{Course, PAGE, Report, Taken};
+use std::io::{BufRead, BufReader};
 use steps::line::LONGEST;
 use text::words::first;
 
 // The program's name, on standard error.
 const NAME: [u8; 5] = *b"pages";
 
-// How far the program has come: the report, the input, and whether there is more to do.
-#[derive(Clone, Copy)]
-struct Reading {
-    report: Report,
-    input: Input,
-    open: bool,
-}
-
-impl Reading {
-    // A step further: more of the input, and a line, once it is whole, is taken.
-    fn step(
-        self,
-        from: &mut impl Read,
-        piece: &mut [u8],
-        line: &mut [u8],
-        page: &mut [u8],
-        to: &impl Print,
-        errors: &impl Print,
-    ) -> Reading {
-        let before = self.input;
-        let report = self.report;
-        let input = before.step(from, piece, line, errors, &NAME);
-        let text = first(line, input.filled);
-        let reached = input.reached;
-        match reached {
-            Reached::Nothing => at(report, input, true),
-            Reached::Line => take(report, input, text, page, to, errors),
-            Reached::End => finish(report, input, text, page, to, errors),
-            Reached::Failure => at(report, input, false),
-        }
-    }
-}
-
-fn at(report: Report, input: Input, open: bool) -> Reading {
-    Reading {
-        report: report,
-        input: input,
-        open: open,
-    }
-}
-
-// A line is taken, and what it prints is handed on.
-fn take(
-    report: Report,
-    input: Input,
-    line: &[u8],
-    page: &mut [u8],
-    to: &impl Print,
-    errors: &impl Print,
-) -> Reading {
-    let taken = report.take(line, page);
-    let course = taken.course;
-    let after = taken.report;
-    let handed = print(first(page, taken.length), course, to, errors);
-    at(after, input, handed && !course.has_ended())
-}
-
-// The last line is taken.
-fn finish(
-    report: Report,
-    input: Input,
-    line: &[u8],
-    page: &mut [u8],
-    to: &impl Print,
-    errors: &impl Print,
-) -> Reading {
-    let taken = report.take_last(line, page);
-    let course = taken.course;
-    let after = taken.report;
-    print(first(page, taken.length), course, to, errors);
-    at(after, input, false)
-}
-
-// Hands on what a line has printed. What stops a report is told too, so that the script knows.
-fn print(printed: &[u8], course: Course, to: &impl Print, errors: &impl Print) -> bool {
-    let handed = hand_on(to, printed, errors, &NAME);
-    if handed {
-        match course {
-            Course::GoesOn => (),
-            Course::Over => (),
-            Course::Stopped => tell(errors, &NAME, printed),
-        }
-    }
-    handed
-}
+// How much of the input is read at once, at most.
+const PIECE: usize = 65536;
 
 // Reads on until the report has ended. A proved loop has to end, and nothing says that the input does: this one counts to a number that no run comes to.
-fn read_on(
-    reading: Reading,
-    from: &mut impl Read,
-    piece: &mut [u8],
-    line: &mut [u8],
-    page: &mut [u8],
-    to: &impl Print,
-    errors: &impl Print,
-) {
-    let mut at = reading;
+fn print_pages(rt: &HostRuntime) -> Result<(), Failure> {
+    let mut from = BufReader::with_capacity(rt.alloc(), PIECE, rt.stdin()).map_err(Failure::Input)?;
+    let mut room = Vec::new(rt.alloc());
+    let mut page = [0u8; PAGE];
+    let mut report = Report::new();
     for _ in 0..u64::MAX {
-        if !at.open {
-            break;
+        let line = next_line(&mut from, LONGEST + 1, &mut room).map_err(Failure::Input)?;
+        let taken = match line {
+            Line::Whole(text) => report.take(text, &mut page),
+            Line::Last(text) => report.take_last(text, &mut page),
+        };
+        let printed = first(&page, taken.length);
+        rt.stdout().write_all(printed).map_err(Failure::Output)?;
+        match taken.course {
+            Course::GoesOn => report = taken.report,
+            Course::Over => break,
+            // What stops a report is told too, so that the script knows.
+            Course::Stopped => {
+                tell(&rt.stderr(), &NAME, printed);
+                break;
+            }
         }
-        at = at.step(from, piece, line, page, to, errors);
     }
+    Ok(())
 }
 
 fn main(rt: HostRuntime) {
-    let mut piece = [0u8; 65536];
-    let mut line = [0u8; LONGEST + 1];
-    let mut page = [0u8; report::PAGE];
-    read_on(
-        at(Report::new(), Input::new(), true),
-        &mut rt.stdin(),
-        &mut piece,
-        &mut line,
-        &mut page,
-        &rt.stdout(),
-        &rt.stderr(),
-    );
+    if let Err(failure) = print_pages(&rt) {
+        failure.tell(&rt.stderr(), &NAME);
+    }
 }

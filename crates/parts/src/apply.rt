@@ -1,4 +1,7 @@
 // What an event looks at in an image, and an image with what is decided applied where it lies.
+// Written beside chain's own `apply`: the paper asks for a chain by value, C lends an image, and both are proved equal to one definition.
+#![tactic(auto, using(image::proofs::OneToOne::image_length))]
+
 ghost use Rattle.std.specs.Prelude.{true, IfSome, ◌≡◌, ◌<◌};
 ghost use Rattle.chain.specs.Apply.{replaced_in, set_in, applied};
 ghost use Rattle.chain.specs.Seen.{looked_at};
@@ -18,14 +21,11 @@ pub fn walked(image: &[u8], to: u8) -> Walk
     ensures { result ≡ walked_to (chain_in image.now) to }
 {
     let response = response_in(image);
-    let mut walk = Walk::at_first(image[ENABLE] == 1);
-    for i in 0..to {
-        walk = walk.past(chip_at(image, i), response);
-    }
-    walk
+    Walk::along(image[ENABLE] == 1, to, response, |i| chip_at(image, i))
 }
 
 // The number of the chip that an event looks at; the count where there is no such chip.
+#[tactic(auto, unfolding(image::specs::Reading::chain_in, chain::specs::Walk::walked_to, chain::specs::Walk::answering_chip), using(image::proofs::OneToOne::image_length))]
 pub fn looked_at(image: &[u8], look: Look) -> u8
     requires { is_image image.now ≡ true }
     ensures { result ≡ looked_at look (chain_in image.now) }
@@ -39,6 +39,7 @@ pub fn looked_at(image: &[u8], look: Look) -> u8
 
 // The chain's own fields, and a chip with its number and its Enable In. Past the eight records the number tells that there is no such chip, and the chip is
 // some other.
+#[tactic(auto, unfolding(image::specs::Reading::chain_in, crate::specs::Round::seen_round), using(image::proofs::OneToOne::image_length))]
 pub fn seen_round(image: &[u8], at: u8, ei: bool) -> Seen
     requires { is_image image.now ≡ true }
     ensures { result ≡ seen_round at ei (chain_in image.now) }
@@ -80,6 +81,7 @@ fn set(image: &mut [u8], change: Change)
 }
 
 // What is decided.
+#[tactic(auto, unfolding(chain::specs::Apply::applied))]
 pub fn apply(image: &mut [u8], change: Change)
     requires image_form { is_image image.old ≡ true }
     requires at_bound { IfSome change.replaced (λ replaced. replaced.at < 8) }

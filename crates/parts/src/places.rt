@@ -1,5 +1,7 @@
 // One part of an image read or replaced where it lies: what is written is the image of the chain with that part replaced.
 // Each function asks for an image; is_image has told, and each leaves one.
+#![tactic(auto, using(image::proofs::OneToOne::image_length))]
+
 ghost use Rattle.std.specs.Prelude.{true, ◌≡◌, ◌<◌, ◌%◌};
 ghost use Rattle.chain.specs.Apply.{counted};
 ghost use Rattle.chain.specs.Fields.{chip_at, with_chip, with_own};
@@ -20,8 +22,7 @@ pub(crate) fn chip_at(image: &[u8], i: u8) -> Chip
     if i >= 8 {
         return Chip::zero();
     }
-    let at = RECORDS + RECORD * i as usize;
-    chip_in(&image[at..])
+    chip_round(image, i)
 }
 
 // The chip in record i, counted round the eight: for i below 8, chip i. A number from the list is not yet known to be below the count, and this needs no test.
@@ -61,7 +62,7 @@ pub fn count_event(image: &mut [u8])
     ensures form_after { is_image image.new ≡ true }
     ensures chain_after { chain_in image.new ≡ counted (chain_in image.old) }
 {
-    let event = next_number(event_of(image[EVENT_LOW], image[EVENT_HIGH]));
-    image[EVENT_LOW] = (event % 256) as u8;
-    image[EVENT_HIGH] = (event / 256) as u8;
+    let event = next_number(event_of(image[EVENT_LOW], image[EVENT_HIGH])).to_le_bytes();
+    image[EVENT_LOW] = event[0];
+    image[EVENT_HIGH] = event[1];
 }

@@ -5,7 +5,7 @@ ghost use Rattle.text.specs.Written.{written};
 
 use text::tables::{line_in, put_line};
 
-// The sentences, each in the line of its number, from 0; the last line is for a number that is none.
+// The sentences, each in the line of its number, from 0; the last line is for a number that is none. One text by lines: the definition reads the same one.
 const SENTENCES: [u8; 1320] = *b"\
     accepted\n\
     not a sound chain: a count of chips outside 1 to 8, or from C an image of another length or form or with a number out of range; start one of 1 to 8 chips\n\

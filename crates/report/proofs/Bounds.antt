@@ -3,8 +3,7 @@
 use Rattle.std.specs.Prelude.{Ok, Err}
 use Rattle.std.proofs.Common.{ℕ, ◌≤◌, Bool, true, false, cond, List, [], ◌++◌, length, arith, length-append}
 use Rattle.refusal.specs.Answers.{verdict_in}
-use Rattle.refusal.specs.Numbers.{Answer}
-use Rattle.refusal.specs.Numbers.{Verdict}
+use Rattle.refusal.specs.Numbers.{Answer, Verdict}
 use Rattle.chain.specs.declared.Chain.{Chain}
 use Rattle.messages.proofs.Bounds.{refused_le, malformed_le}
 use Rattle.page.proofs.Bounds.{page_le}

@@ -1,3 +1,4 @@
 pub mod Bounds
+pub mod Closed
 pub mod EveryList
 pub mod Tried

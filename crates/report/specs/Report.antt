@@ -4,8 +4,7 @@ use Rattle.chain.specs.Events.{event_of}
 use Rattle.chain.specs.Fields.{zero_chain}
 use Rattle.chain.specs.Start.{start_of}
 use Rattle.refusal.specs.Answers.{verdict_in}
-use Rattle.refusal.specs.Numbers.{Answer}
-use Rattle.refusal.specs.Numbers.{Verdict}
+use Rattle.refusal.specs.Numbers.{Answer, Verdict}
 use Rattle.chain.specs.declared.Chain.{Chain}
 use Rattle.event.specs.Numbers.{numbered, in_numbers}
 use Rattle.event.specs.declared.Numbered.{Numbered}

@@ -18,6 +18,7 @@ use steps::{Expected, Step};
 pub const PAGE: usize = 16384;
 
 // What the lines so far have made: the number of the next line, whether the list has started, and its chain.
+// A flag beside the chain and no Option of it: what a line prints is promised of every report, also of one that has not started and holds a chain (`OnePage`: `take`).
 #[derive(Clone, Copy)]
 pub struct Report {
     pub line: u64,
@@ -34,6 +35,7 @@ pub enum Course {
 }
 
 // What a line has done: the report after it, how many bytes it has printed, and how it goes on.
+// What it has printed are the first bytes of the caller's page, and their number stands here: the page is lent, and no memory is taken for it.
 #[derive(Clone, Copy)]
 pub struct Taken {
     pub report: Report,
@@ -71,18 +73,16 @@ impl Report {
         match step_of(self.started, line) {
             Step::Nothing => self.goes_on(self.started, self.chain, 0),
             Step::Start(count, fill) => {
-                let started = Chain::start(count, fill);
                 let step = Numbered {
                     kind: START,
                     chip: count,
                     channel: 0,
                     value: fill,
                 };
-                self.answer(step, started, page)
+                self.answer(step, Chain::start(count, fill), page)
             }
             Step::Happens(event) => {
-                let happened = self.chain.on(event);
-                self.answer(Numbered::from(event), happened, page)
+                self.answer(Numbered::from(event), self.chain.on(event), page)
             }
             Step::Malformed(expected, place) => {
                 let length = put_malformed(page, 0, self.line, expected, found_in(line, place));
@@ -100,12 +100,11 @@ impl Report {
         if taken.course.has_ended() {
             return taken;
         }
-        let report = taken.report;
-        if report.started {
-            return report.ends(taken.length, Course::Over);
+        if taken.report.started {
+            return taken.report.ends(taken.length, Course::Over);
         }
         let length = put_malformed(page, taken.length, self.line, Expected::TheStart, b"");
-        report.ends(length, Course::Stopped)
+        taken.report.ends(length, Course::Stopped)
     }
 
     // An accepted step prints its page, a refused one its refusal.

@@ -1,7 +1,6 @@
-// The walk along the chain: EI and EO from chip to chip, and who answers. One rule, over what it needs of each chip; whoever holds the chips, in whatever form,
-// goes past them one by one.
-ghost use Rattle.std.specs.Prelude.{◌≡◌, ◌<◌};
-ghost use Rattle.response.specs.Walk.{eo_of, past, answers_first};
+// The walk along the chain: EI and EO from chip to chip, and who answers. One rule, over what it needs of each chip, for whoever holds the chips, in whatever form.
+ghost use Rattle.std.specs.Prelude.{ℕ, ◌≡◌, ◌<◌};
+ghost use Rattle.response.specs.Walk.{eo_of, along, past, answers_first};
 
 use crate::held::is_responding;
 use crate::{Response, Walk};
@@ -15,6 +14,18 @@ pub fn eo_of(ei: bool, chip: Chip, response: Response, i: u8) -> bool
 }
 
 impl Walk {
+    // Up to a chip, past each chip before it, in turn.
+    pub fn along<F: Fn(u8) -> Chip>(enable: bool, to: u8, response: Response, chip_at: F) -> Walk
+        requires { F.IsAlwaysCallable chip_at }
+        ensures { (chips : ℕ → _) → ((i : ℕ) (c : _) → i < to → F.post chip_at i c → c ≡ chips i) → result ≡ along enable chips response to }
+    {
+        let mut walk = Walk::at_first(enable);
+        for i in 0..to {
+            walk = walk.past(chip_at(i), response);
+        }
+        walk
+    }
+
     // Before chip 0, whose EI is the chain's.
     pub fn at_first(enable: bool) -> Walk
         ensures { result ≡ record { at = 0; ei = enable; answering = 0 } }

@@ -10,6 +10,7 @@ use search::channel_of;
 
 impl Reply {
     // The response of chip i for its candidate, before its first byte: level and length are held from here on.
+    #[tactic(auto, using(search::proofs::Order::candidate_lt))]
     pub fn of(i: u8, chip: Chip) -> Reply
         requires { chip_sound chip ≡ true }
         ensures { result ≡ reply_of i chip }

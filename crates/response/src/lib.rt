@@ -20,6 +20,7 @@ pub struct Reply {
 pub type Response = Option<Reply>;
 
 // The walk along the chain, from chip 0 on: the next chip, its Enable In, and the first chip so far that answers; the next chip itself if none does.
+// That number and no Option: a walk to the end then has the count, which is how the paper's first pulse finds nobody (`answering_chip`).
 #[derive(Clone, Copy)]
 pub struct Walk {
     pub at: u8,

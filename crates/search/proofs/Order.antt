@@ -5,10 +5,8 @@ use Rattle.std.specs.Option.{unwrap_or}
 use mathlib.Core.Path.{◌≡◌, refl, ap, ◌∙◌}
 use mathlib.Core.Bool.{Bool, true, false, cond, not, ◌&&◌, ◌||◌}
 use Prim.Native.Nat.{ℕ, ◌-◌, ◌<◌}
-use native.Mathlib.Nat.{le_of_suc-le-suc}
 use lib.Bits.{bit_and, bit_or}
 use lib.Dec.{ltb, lit<}
-use borrow.Author.Tests.{le-ltb}
 use Rattle.bits.specs.Byte.{bit, without_bit, is_waiting}
 use Rattle.bits.proofs.Byte.{bit-or, bit-waiting}
 use Rattle.order.specs.Order.{channel_at, first_in, first_channel}
@@ -28,8 +26,9 @@ first_in_busy last irr imr isr h =
     (λ k l. bit-or (bit_and irr (255 - imr)) isr k ∙ ap (λ (b : Bool). b || bit isr k) (bit-waiting irr imr k h l))
 
 -- the candidate, where the first channel that waits or is in service is known: itself, unless it is in service
-abbrev pub candidate_by : ℕ → ℕ → Option ℕ
-candidate_by isr k = cond (ltb 7 k) None (cond (bit isr k) None (Some k))
+abbrev pub candidate_by : ℕ → Option ℕ → Option ℕ
+candidate_by isr (Some k) = cond (bit isr k) None (Some k)
+candidate_by isr None = None
 
 pub candidate_by_lem : (last irr imr isr : ℕ) → imr < 256
     → candidate_in last irr imr isr ≡ candidate_by isr (first_channel last (bit_or (bit_and irr (255 - imr)) isr))
@@ -45,24 +44,25 @@ candidate_by_lem last irr imr isr h = rw (first_in_busy last irr imr isr h) (by 
     same : ltb (first_waiting last irr imr) (fence last isr) ≡ true → first_waiting last irr imr ≡ place
     same = first_in_either last (is_waiting irr imr) (bit isr)
 
-    is_channel : ltb 7 (channel_at last place) ≡ false
-    is_channel = le-ltb 7 (channel_at last place) (le_of_suc-le-suc (channel_lt last place))
-
     by : (found fenced : Bool) → ltb place 8 ≡ found → bit isr (channel_at last place) ≡ fenced
         → cond (ltb (first_waiting last irr imr) (fence last isr)) (Some (channel_at last (first_waiting last irr imr))) None
-        ≡ candidate_by isr (cond (ltb place 8) (channel_at last place) 255)
-    by true true found fenced = simp (ahead, found, fenced, is_channel)
+        ≡ candidate_by isr (cond (ltb place 8) (Some (channel_at last place)) None)
+    by true true found fenced = simp (ahead, found, fenced)
     by true false found fenced =
         let is : ltb (first_waiting last irr imr) (fence last isr) ≡ true = ahead ∙ simp (found, fenced) in
-        rw is (rw (same is) (simp (found, fenced, is_channel)))
+        rw is (rw (same is) (simp (found, fenced)))
     by false fenced none is = simp (ahead, none)
 
--- the first ISR bit cleared; 255, where there is none, is no bit of a byte
-clear_by : (found : Bool) (isr k : ℕ) → cond found (without_bit isr k) isr ≡ without_bit isr (cond found k 255)
+-- the first ISR bit cleared, where there is one
+abbrev pub cleared : ℕ → Option ℕ → ℕ
+cleared isr (Some k) = without_bit isr k
+cleared isr None = isr
+
+clear_by : (found : Bool) (isr k : ℕ) → cond found (without_bit isr k) isr ≡ cleared isr (cond found (Some k) None)
 clear_by true isr k = refl
 clear_by false isr k = refl
 
-pub clear_first_lem : (last isr : ℕ) → clear_first last isr ≡ without_bit isr (first_channel last isr)
+pub clear_first_lem : (last isr : ℕ) → clear_first last isr ≡ cleared isr (first_channel last isr)
 unfolding clear_first first_channel
 clear_first_lem last isr = clear_by (ltb (fence last isr) 8) isr (channel_at last (fence last isr))
 

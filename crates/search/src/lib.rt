@@ -25,18 +25,20 @@ pub fn candidate_of(irr: u8, imr: u8, isr: u8, mode: u8, pointer: u8) -> Option<
     }
     let last = last_of(mode, pointer);
     let waiting = irr & !imr;
-    let first = order::first_channel(last, waiting | isr);
-    (first <= 7 && !bits::is_set(isr, first)).then_some(first)
+    let first = order::first_channel(last, waiting | isr)?;
+    (!bits::is_set(isr, first)).then_some(first)
 }
 
-// ISR after "clear highest priority ISR bit", by the order in force. An empty ISR has no first bit, and 255 is no bit to clear.
+// ISR after "clear highest priority ISR bit", by the order in force. An empty ISR has no first bit, and stays.
 #[tactic(auto, using(crate::proofs::Order::clear_first_lem), unfolding(crate::specs::Clear::clear_highest))]
 pub fn clear_highest(isr: u8, mode: u8, pointer: u8) -> u8
     ensures { result ≡ clear_highest isr mode pointer }
 {
     let last = last_of(mode, pointer);
-    let first = order::first_channel(last, isr);
-    bits::without_bit(isr, first)
+    match order::first_channel(last, isr) {
+        Some(first) => bits::without_bit(isr, first),
+        None => isr,
+    }
 }
 
 // A candidate exists.

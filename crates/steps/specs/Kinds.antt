@@ -1,5 +1,5 @@
 -- The steps of an event list: their names, and the arguments that each takes. Kind 0 is the start; 1 to 8 are the events.
-use Rattle.std.specs.Prelude.{Bool, cond, not, ◌&&◌, List, ℕ, eqb, ltb, take}
+use Rattle.std.specs.Prelude.{Bool, cond, not, ◌&&◌, Option, is_some, List, ℕ, eqb, take}
 use Rattle.text.specs.Cast.{cast}
 use Rattle.text.specs.Tables.{line_in, place_in}
 use Rattle.text.specs.Written.{text}
@@ -15,12 +15,12 @@ names = text "start\ncommand\ndata\nstatus\nread\nline\nenable\nfall\nrise"
 unfoldable pub name_of : ℕ → List ℕ
 name_of kind = line_in kind names
 
--- the kind that a word names; 9 if none
-unfoldable pub kind_of : List ℕ → ℕ
+-- the kind that a word names, if it names one
+unfoldable pub kind_of : List ℕ → Option ℕ
 kind_of word = place_in names 9 word
 
 abbrev pub is_name : List ℕ → Bool
-is_name word = ltb (kind_of word) 9
+is_name word = is_some (kind_of word)
 
 -- a word that is no name, but would be one in small letters; its first eight tell, since no name has as many
 unfoldable pub in_capitals : List ℕ → Bool

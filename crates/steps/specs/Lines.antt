@@ -84,8 +84,9 @@ abbrev pub awaited : Bool → Expected
 awaited false = TheStart
 awaited true = AnEvent
 
-abbrev pub step_named : Bool → ℕ → List ℕ → Step
-step_named started kind rest = cond (may_stand started kind) (read_as kind rest) (Malformed (awaited started) 0)
+abbrev pub step_named : Bool → Option ℕ → List ℕ → Step
+step_named started (Some kind) rest = cond (may_stand started kind) (read_as kind rest) (Malformed (awaited started) 0)
+step_named started None rest = Malformed (awaited started) 0
 
 -- the first word names the step; a line without one says nothing
 unfoldable pub step_in : Bool → List ℕ → Step

@@ -12,19 +12,18 @@ use text::words::first;
 // The kind of the start.
 pub const START: u8 = 0;
 
-// How many kinds there are.
+// How many kinds there are. A kind is a number and no enum: form_of, put_name and put_step answer for each of the 256 that a list may have (event::Numbered).
 pub const KINDS: u8 = 9;
 
-// The names, each in the line of its kind.
+// The names, each in the line of its kind: one text, in which a word is looked for and from which a name is written.
 const NAMES: [u8; 52] = *b"start\ncommand\ndata\nstatus\nread\nline\nenable\nfall\nrise";
 
 // The kind of the step that a word names, if it names one.
 #[tactic(auto, unfolding(crate::specs::Kinds::kind_of))]
 pub(crate) fn kind_of(word: &[u8]) -> Option<u8>
-    ensures { result ≡ cond (is_name word.now) (Some (kind_of word.now)) None }
+    ensures { result ≡ kind_of word.now }
 {
-    let kind = place_in(&NAMES, KINDS, word);
-    if kind < KINDS { Some(kind) } else { None }
+    place_in(&NAMES, KINDS, word)
 }
 
 // Whether a word is no name, but would be one in small letters.
@@ -54,20 +53,15 @@ pub fn put_name(to: &mut [u8], at: usize, kind: u8) -> usize
 pub fn form_of(kind: u8) -> Form
     ensures { result ≡ form_of kind }
 {
-    match kind {
-        0 => taking(Argument::Count, Argument::End, Argument::Fill),
-        1 => taking(Argument::Chip, Argument::End, Argument::Code),
-        2 => taking(Argument::Chip, Argument::End, Argument::Byte),
-        3 | 4 => taking(Argument::Chip, Argument::End, Argument::End),
-        5 => taking(Argument::Chip, Argument::Channel, Argument::Level),
-        6 => taking(Argument::End, Argument::End, Argument::Level),
-        _ => taking(Argument::End, Argument::End, Argument::End),
-    }
-}
-
-fn taking(chip: Argument, channel: Argument, value: Argument) -> Form
-    ensures { result ≡ record { chip = chip; channel = channel; value = value } }
-{
+    let (chip, channel, value) = match kind {
+        0 => (Argument::Count, Argument::End, Argument::Fill),
+        1 => (Argument::Chip, Argument::End, Argument::Code),
+        2 => (Argument::Chip, Argument::End, Argument::Byte),
+        3 | 4 => (Argument::Chip, Argument::End, Argument::End),
+        5 => (Argument::Chip, Argument::Channel, Argument::Level),
+        6 => (Argument::End, Argument::End, Argument::Level),
+        _ => (Argument::End, Argument::End, Argument::End),
+    };
     Form {
         chip,
         channel,

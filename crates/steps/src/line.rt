@@ -3,7 +3,7 @@ ghost use Rattle.std.specs.Prelude.{◌≡◌, ◌≤◌, ◌<◌, take};
 ghost use Rattle.text.specs.Words.{behind};
 ghost use Rattle.steps.specs.Lines.{text_end, is_over, value_of, words as Lines·words, behind_argument, made, step_from, read_as, may_stand, awaited, step_in, step_of, looked_at, found_in};
 
-use crate::kinds::{START, form_of, kind_of};
+use crate::kinds::{KINDS, START, form_of, kind_of};
 use crate::{Argument, Expected, Step};
 use event::{Event, Numbered};
 use text::numbers::{decimal_in, hex_in};
@@ -81,10 +81,9 @@ fn is_over(line: &[u8]) -> bool
 
 // Whether a step may stand there: the start first, and nowhere else.
 fn may_stand(started: bool, kind: u8) -> bool
-    requires { kind < 9 }
     ensures { result ≡ may_stand started kind }
 {
-    started == (kind != START)
+    kind < KINDS && started == (kind != START)
 }
 
 fn await_for(started: bool) -> Expected

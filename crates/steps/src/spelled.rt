@@ -9,7 +9,7 @@ use event::Numbered;
 use text::put::{put_byte_field, put_field};
 
 // A step: its name, and what it takes.
-#[tactic(auto, using(text::proofs::Written::one_after_the_other, text::proofs::Written::written_none), unfolding(crate::specs::Spelled::spelled))]
+#[tactic(auto, using(crate::proofs::InARow::in_a_row), unfolding(crate::specs::Spelled::spelled))]
 pub fn put_step(to: &mut [u8], at: usize, step: Numbered) -> usize
     ensures { (to.new, result) ≡ written (to.old, at) (spelled step) }
 {

@@ -1,5 +1,5 @@
 -- Tables of names: a text whose lines are the names, counted from 0.
-use Rattle.std.specs.Prelude.{cond, List, ℕ, zero, suc, ◌+◌, take, drop}
+use Rattle.std.specs.Prelude.{cond, Option, Some, None, List, ℕ, zero, suc, ◌+◌, take, drop}
 use Rattle.text.specs.Words.{line_end, same}
 
 -- what stands behind the first line of a text and its line feed
@@ -11,11 +11,11 @@ abbrev pub line_in : ℕ → List ℕ → List ℕ
 line_in zero text = take (line_end text) text
 line_in (suc k) text = line_in k (behind_line text)
 
--- of so many lines, from line k on, the first that a word is; the next one if it is none
-abbrev pub place_from : ℕ → ℕ → List ℕ → List ℕ → ℕ
-place_from zero k table word = k
-place_from (suc lines) k table word = cond (same word (line_in k table)) k (place_from lines (k + 1) table word)
+-- of so many lines, from line k on, the first that a word is, if it is one of them
+abbrev pub place_from : ℕ → ℕ → List ℕ → List ℕ → Option ℕ
+place_from zero k table word = None
+place_from (suc lines) k table word = cond (same word (line_in k table)) (Some k) (place_from lines (k + 1) table word)
 
 -- of the first so many
-unfoldable pub place_in : List ℕ → ℕ → List ℕ → ℕ
+unfoldable pub place_in : List ℕ → ℕ → List ℕ → Option ℕ
 place_in table lines word = place_from lines 0 table word

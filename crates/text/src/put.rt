@@ -1,4 +1,6 @@
 // Text written into a lent buffer from a place on. Each call hands back the place behind what it has written, for the next one.
+// The buffer and the place are two parameters and no record of both: a record would hold the borrow, and each function that is lent one would have to promise
+// besides that it still holds the same buffer.
 ghost use Rattle.std.specs.Prelude.{◌++◌, ◌≡◌, ◌<◌};
 ghost use Rattle.text.specs.Written.{written, decimal, hex_byte, hex_digit};
 
@@ -25,7 +27,7 @@ fn put_decimal(to: &mut [u8], at: usize, n: u64) -> usize
     put(to, at, Buffer::new().format(n).as_bytes())
 }
 
-// A byte as two hex digits.
+// A byte as two hex digits. By hand: a formatted `{:02X}` would need a cursor over what is left of the buffer.
 #[tactic(auto, unfolding(crate::specs::Written::hex_byte))]
 fn put_hex(to: &mut [u8], at: usize, byte: u8) -> usize
     ensures { (to.new, result) ≡ written (to.old, at) (hex_byte byte) }
@@ -53,7 +55,7 @@ pub fn put_field(to: &mut [u8], at: usize, name: &[u8], n: u64) -> usize
     put_decimal(to, next, n)
 }
 
-// A name and a byte in hex.
+// A name and a byte in hex. Two functions and no closure for the number: each is promised by itself (`OnePagePart`), and both are two lines.
 #[tactic(auto, using(crate::proofs::Written::one_after_the_other))]
 pub fn put_byte_field(to: &mut [u8], at: usize, name: &[u8], byte: u8) -> usize
     ensures { (to.new, result) ≡ written (to.old, at) (name.now ++ hex_byte byte) }

@@ -32,12 +32,9 @@ fn behind_line(text: &[u8]) -> &[u8]
     text.get(line_end(text) + 1..).unwrap_or(&[])
 }
 
-// Of so many lines the first that a word is; the number of them if it is none.
-// That number and no Option: steps::kinds::kind_of has as many kinds, and that one for a word that is none.
-pub fn place_in(table: &[u8], lines: u8, word: &[u8]) -> u8
+// Of so many lines the first that a word is, if it is one of them.
+pub fn place_in(table: &[u8], lines: u8, word: &[u8]) -> Option<u8>
     ensures { result ≡ place_in table.now lines word.now }
 {
-    (0..lines)
-        .find(|k| line_in(table, *k) == word)
-        .unwrap_or(lines)
+    (0..lines).find(|k| line_in(table, *k) == word)
 }

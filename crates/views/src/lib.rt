@@ -35,6 +35,8 @@ pub struct Pins {
     pub iack: u8,
 }
 
+// A verdict beside the record and no Result of it: the paper says what the fields of a refused view are (`register_view_outcome`, `pin_view_outcome`). And a type for each record: what is
+// claimed of a state names the fields of both (demands/specs/Agree).
 #[derive(Clone, Copy)]
 pub struct RegisterView {
     pub verdict: Verdict,
@@ -48,6 +50,7 @@ pub struct PinView {
 }
 
 // The register view of a chip.
+#[tactic(auto, unfolding(crate::specs::Views::register_view))]
 pub fn register_view(chain: Chain, chip: u8) -> RegisterView
     ensures { result ≡ register_view chip chain }
 {
@@ -61,6 +64,7 @@ pub fn register_view(chain: Chain, chip: u8) -> RegisterView
 }
 
 // The pin view of a chip.
+#[tactic(auto, unfolding(crate::specs::Views::pin_view))]
 pub fn pin_view(chain: Chain, chip: u8) -> PinView
     ensures { result ≡ pin_view chip chain }
 {

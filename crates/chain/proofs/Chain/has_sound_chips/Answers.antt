@@ -1,25 +1,18 @@
--- `chain::Chain::has_sound_chips` meets its contract. The loop's invariant: every chip passed so far is sound.
-use mathlib.Core.Path.{◌≡◌, ap, sym, ◌∙◌}
+-- `chain::Chain::has_sound_chips` meets its contract.
+use Rattle.std.proofs.Common.{ℕ, Bool, refl, ◌∙◌, rules, tests}
 use native.Mathlib.Omega.{arith}
-use borrow.Author.Count.{below_none, below_more}
-use Rattle.bits.proofs.Below.{every-all, every-not}
+use Rattle.std.proofs.lemmas.Iterator.{YieldsList-from_range}
+use Rattle.std.proofs.lemmas.Iterator.Search.{all_from_yields_List}
+use Rattle.bits.specs.Below.{every}
 use Rattle.chip.specs.Sound.{chip_sound}
 use Rattle.chain.specs.Fields.{chip_at}
 use Rattle.chain.specs.Sound.{chips_sound}
+use Rattle.chain.proofs.Each.{all_below}
 use Rattle.chain.proofs.Chain.has_sound_chips.Goals as goal
-
-pub loop-i-init : goal.loop-i-init
-loop-i-init c = (omega arith, below_none _)
-
-pub returns-then-not-is_sound : goal.returns-then-not-is_sound
-unfolding chips_sound
-returns-then-not-is_sound c = sym (every-not c.args.self.count (λ k. chip_sound (chip_at c.args.self k)) c.loop-i.i c.loop-i-test.true (ap chip_sound (sym c.chip_at.ensures) ∙ sym c.is_sound.ensures ∙ c.if-not-is_sound.true))
-
-pub loop-i-preserved : goal.loop-i-preserved
-loop-i-preserved c = (omega arith, below_more _ _ c.loop-i.invariant.1 (ap chip_sound (sym c.chip_at.ensures) ∙ sym c.is_sound.ensures ∙ c.if-not-is_sound.false))
 
 pub returns : goal.returns
 unfolding chips_sound
 returns c =
-    let at-end : c.loop-i.i ≡ c.args.self.count = omega arith in
-    sym (every-all c.args.self.count (λ k. chip_sound (chip_at c.args.self k)) (λ k h. c.loop-i.invariant.1 k (omega (arith, at-end))))
+    let each : ℕ → Bool = λ i. chip_sound (chip_at c.args.self i) in
+    all_from_yields_List each _ _ _ c.all.ensures.ran (YieldsList-from_range 0 c.args.self.count c.args.self.count refl (omega arith)) (λ x b q k. search (rules, tests))
+    ∙ all_below c.args.self.count each

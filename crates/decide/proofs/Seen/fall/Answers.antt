@@ -7,11 +7,3 @@ use Rattle.decide.proofs.Seen.fall.Goals as goal
 
 pub driving-requires : goal.driving-requires
 driving-requires c = let left = next_left c.args.self c.in-Some.reply c.requires.sound_seen c.requires.iack_high c.in-Some.is in let most = (under_way_parts c.args.self c.in-Some.reply c.requires.sound_seen c.in-Some.is).at_most_four in omega (arith, left, most)
-
-pub returns-in-None : goal.returns-in-None
-unfolding decided fallen
-returns-in-None c = simp (c.first_pulse.ensures, c.in-None.is)
-
-pub returns-in-Some : goal.returns-in-Some
-unfolding decided fallen
-returns-in-Some c = simp (c.driving.ensures, c.in-Some.is)

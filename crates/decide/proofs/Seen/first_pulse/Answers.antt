@@ -7,10 +7,3 @@ use Rattle.decide.proofs.Seen.first_pulse.Goals as goal
 
 pub answer-requires : goal.answer-requires
 answer-requires c = let found = selected-sound c.args.self c.in-Some.reply c.requires (sym c.selected.ensures ∙ c.in-Some.is) in rw found.1 (lit< tt)
-
-pub returns-in-None : goal.returns-in-None
-unfolding first_pulse
-returns-in-None c = simp (c.setting.ensures, c.nothing.ensures, ← c.selected.ensures, c.in-None.is)
-
-pub returns-in-Some : goal.returns-in-Some
-returns-in-Some c = simp (c.answer.ensures, ← c.selected.ensures, c.in-Some.is)

@@ -11,12 +11,6 @@ use Rattle.image.proofs.OneToOne.{image_length}
 use Rattle.image.proofs.Records.{chips_at}
 use Rattle.parts.proofs.places.chip_round.Goals as goal
 
-pub slice_bounds-chip_in-count : goal.slice_bounds-chip_in-count
-slice_bounds-chip_in-count c = omega (arith, image_length c.args.image.now c.requires)
-
-pub slice_bounds-chip_in-start : goal.slice_bounds-chip_in-start
-slice_bounds-chip_in-start c = omega (arith, image_length c.args.image.now c.requires)
-
 pub chip_in-requires : goal.chip_in-requires
 chip_in-requires c =
     let at : ℕ = 16 + 64 * (c.args.i % 8) in

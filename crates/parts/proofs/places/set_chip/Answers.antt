@@ -15,9 +15,6 @@ use Rattle.image.proofs.Records.{record_length}
 use Rattle.parts.proofs.Parts.{chip_set}
 use Rattle.parts.proofs.places.set_chip.Goals as goal
 
-pub slice_bounds-put_chip-end : goal.slice_bounds-put_chip-end
-slice_bounds-put_chip-end c = omega (arith, image_length c.args.image.now c.requires.image_form, c.requires.i_bound)
-
 pub returns : goal.returns
 returns c =
     let whole : WholeChip c.args.chip = record { eight_codes = search rules; all_memory = search rules } in

@@ -12,15 +12,6 @@ use Rattle.image.proofs.OneToOne.{image_length}
 use Rattle.parts.proofs.Parts.{own_set}
 use Rattle.parts.proofs.places.set_own.Goals as goal
 
-pub put_bytes-requires : goal.put_bytes-requires
-put_bytes-requires c = omega (arith, image_length c.args.image.now c.requires)
-
-pub bounds-image-1 : goal.bounds-image-1
-bounds-image-1 c = search (rules, image_length c.args.image.now c.requires)
-
-pub bounds-image-2 : goal.bounds-image-2
-bounds-image-2 c = search (rules, image_length c.args.image.now c.requires, length-set c.put_bytes.new.to 1 c.digit_of.result)
-
 pub returns : goal.returns
 returns c =
     let b : List ℕ = c.args.image.now in

@@ -1,5 +1,5 @@
 -- `text::tables::place_in` meets its contract.
-use Rattle.std.proofs.Common.{◌≡◌, ℕ, Option, Some, None, unwrap_or, refl, ap, ◌∙◌, rules, arith}
+use Rattle.std.proofs.Common.{◌≡◌, ℕ, Option, Some, None, refl, ◌∙◌, rules, arith}
 use Rattle.std.proofs.lemmas.Iterator.{YieldsList-from_range}
 use Rattle.std.proofs.lemmas.Iterator.Search.{find_from_yields_List}
 use Rattle.std.specs.Option.{option_map}
@@ -17,4 +17,4 @@ pub returns : goal.returns
 unfolding place_in
 returns c =
     let found = find_from_yields_List (λ i. same c.args.word.now (line_in i c.args.table.now)) _ _ c.find.result c.find.ensures.ran (YieldsList-from_range 0 c.args.lines c.args.lines (cc) (omega arith)) (λ x b q k. search (rules, same_is)) in
-    c.unwrap_or.ensures ∙ ap (λ r. unwrap_or r c.args.lines) (as_it_is c.find.result ∙ found) ∙ place_is c.args.lines 0 c.args.lines c.args.table.now c.args.word.now (omega arith)
+    as_it_is c.find.result ∙ found ∙ place_is c.args.lines 0 c.args.table.now c.args.word.now
