@@ -58,4 +58,4 @@ risen_puts response v P is holds = search (arith, after_puts)
 
 pub puts : (by : Event → Seen) (P : Event → Chip → Type 0) → Ways by P → (e : Event) → Puts (by e) (P e) (decided e (by e))
 unfolding changes decided
-puts by P w q3 = search (arith, fallen_puts, risen_puts)
+puts by P w e = search (arith, fallen_puts, risen_puts)
