@@ -115,6 +115,7 @@ impl Seen {
     }
 
     // What an accepted event does.
+    #[inline(always)]
     pub fn change(self, e: Event) -> Change
         requires sound_seen { seen_sound self ≡ true }
         requires accepted_event { verdict_on e self ≡ Ok tt }

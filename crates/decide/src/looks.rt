@@ -8,6 +8,7 @@ use response::Response;
 
 impl Look {
     // Where an event looks, with this response under way or none.
+    #[inline(always)]
     pub fn of(e: Event, response: Response) -> Look
         ensures { result ≡ look_of e response }
     {

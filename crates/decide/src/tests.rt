@@ -11,6 +11,7 @@ use figure4::{Command, is_undefined};
 use refusal::{Refusal, Verdict};
 
 // The verdict on an event.
+#[inline(always)]
 pub fn verdict(e: Event, seen: Seen) -> Verdict
     ensures { result ≡ verdict_on e seen }
 {

@@ -172,34 +172,18 @@ enough e s v is here =
     by true t = below_enough e s here (ltb-true _ _ t)
     by false t = past_enough e s here (ltb-false _ _ t)
 
+pub is_seen_sound : (e : Event) (s : Chain) (v : Seen) → v ≡ shown_to e s → sound s ≡ true → seen_sound v ≡ true
+is_seen_sound e s v is here = (enough e s v is here).sound_seen
+
 -- so where the verdict on what it is shown accepts, what it decides by that is what it hands back ..
-pub does : (e : Event) (s : Chain) (v : Seen) (c : Change) (answer : Answer) (after : Chain) → v ≡ shown_to e s → sound s ≡ true → verdict_on e v ≡ Ok tt → c ≡ decided e v
-    → answer ≡ (accepted c s).answer
-    → after ≡ (accepted c s).chain
-    → (answer ≡ (event_of e s).answer) × (after ≡ (event_of e s).chain)
-does e s v c answer after is here told by answers leaves = (answers ∙ ap (λ (o : Outcome). o.answer) same, leaves ∙ ap (λ (o : Outcome). o.chain) same)
-  where
-    v-enough : Enough e v (seen_by e s)
-    v-enough = enough e s v is here
+pub does : (e : Event) (s : Chain) (v : Seen) → v ≡ shown_to e s → sound s ≡ true → verdict_on e v ≡ Ok tt → event_of e s ≡ accepted (decided e v) s
+does e s v is here told =
+    is_accepted_lem e s (seen_by e s) refl here (sym (enough e s v is here).verdict ∙ told)
+    ∙ ap (λ (c : Change). accepted c s) (sym ((enough e s v is here).change told))
 
-    same : accepted c s ≡ event_of e s
-    same =
-        ap (λ (c : Change). accepted c s) (by ∙ v-enough.change told) ∙ sym (is_accepted_lem e s (seen_by e s) refl here (sym v-enough.verdict ∙ told))
-
-pub lands : (e : Event) (s : Chain) (v : Seen) (c : Change) → v ≡ shown_to e s → sound s ≡ true → verdict_on e v ≡ Ok tt → c ≡ decided e v → Within c
-lands e s v c is here told by = subst (λ (c : Change). Within c) (sym by) ((enough e s v is here).at told)
+pub lands : (e : Event) (s : Chain) (v : Seen) → v ≡ shown_to e s → sound s ≡ true → verdict_on e v ≡ Ok tt → Within (decided e v)
+lands e s v is here told = (enough e s v is here).at told
 
 -- .. and where it refuses, the refusal is handed on, and the chain is as given
-pub declines : (e : Event) (s : Chain) (v : Seen) (why : Refusal) (answer : Answer) → v ≡ shown_to e s → sound s ≡ true → verdict_on e v ≡ Err why
-    → IsErrAnd answer (λ (r : Refusal). r ≡ why)
-    → (answer ≡ (event_of e s).answer) × (s ≡ (event_of e s).chain)
-unfolding refused
-declines e s v why answer is here told handed_on =
-    let same = sym (is_refused e s (seen_by e s) why refl here (sym (enough e s v is here).verdict ∙ told)) in
-    let found = err_from_is_err_and answer handed_on in
-    (found.1 ∙ ap Err found.2 ∙ ap (λ (o : Outcome). o.answer) same, ap (λ (o : Outcome). o.chain) same)
-
--- a pulse looks at no Enable In
-pub no_ei : (look : Look) (response : Response) (s : Chain) → looked_ei look s ≡ false → looked_ei (unless_responding look response) s ≡ false
-no_ei look None s e = e
-no_ei look (Some r) s e = refl
+pub declines : (e : Event) (s : Chain) (v : Seen) (why : Refusal) → v ≡ shown_to e s → sound s ≡ true → verdict_on e v ≡ Err why → event_of e s ≡ refused why s
+declines e s v why is here told = is_refused e s (seen_by e s) why refl here (sym (enough e s v is here).verdict ∙ told)

@@ -1,24 +1,45 @@
-// Each event on an image where it lies. An arm for each, so that an event reads and writes no more than it needs: where it looks, its tests and its change are those of
-// `decide`, and no rule stands here.
+// An event on an image where it lies: where it looks, its tests and its change are those of `decide`, and no rule stands here.
 ghost use Rattle.std.specs.Prelude.{true, IfSome, ◌≡◌, ◌<◌};
-ghost use Rattle.event.specs.declared.Event.TheVariants.{Command, Data, Status, Read, Line, Enable, Fall, Rise};
 ghost use Rattle.chain.specs.Events.{accepted, event_of};
+ghost use Rattle.chain.specs.Seen.{looked_ei};
 ghost use Rattle.chain.specs.Sound.{sound};
 ghost use Rattle.image.specs.Reading.{chain_in, is_image};
+ghost use Rattle.parts.specs.Round.{shown_to};
 
-use decide::tests::{
-    bus_verdict, command_verdict, data_verdict, fall_verdict, level_verdict, line_verdict,
-    rise_verdict,
-};
-use decide::{Change, Look};
+use decide::tests::verdict;
+use decide::{Change, Look, Seen};
 use event::Event;
-use image::places::COUNT;
 use image::reading::response_in;
 use parts::apply::{apply, looked_at, seen_round, walked};
 use parts::places::count_event;
 use refusal::Answer;
 
+// The Enable In of the chip that an event looks at, for an event that looks at it.
+#[inline(always)]
+#[tactic(auto, unfolding(chain::specs::Walk::walked_to))]
+fn looked_ei(image: &[u8], look: Look) -> bool
+    requires { is_image image.now ≡ true }
+    ensures { result ≡ looked_ei look (chain_in image.now) }
+{
+    match look {
+        Look::AtEi(i) => walked(image, i).ei,
+        Look::Nowhere | Look::At(_) | Look::Answering => false,
+    }
+}
+
+// What an event is shown: the chain's own fields, and the chip at which it looks.
+#[inline(always)]
+#[tactic(auto, unfolding(image::specs::Reading::chain_in), using(image::proofs::OneToOne::image_length))]
+fn shown(image: &[u8], e: Event) -> Seen
+    requires { is_image image.now ≡ true }
+    ensures { result ≡ shown_to e (chain_in image.now) }
+{
+    let look = Look::of(e, response_in(image));
+    seen_round(image, looked_at(image, look), looked_ei(image, look))
+}
+
 // What an accepted event does, and one more event counted.
+#[tactic(auto, unfolding(chain::specs::Events::accepted))]
 fn accept(image: &mut [u8], change: Change) -> Answer
     requires image_form { is_image image.old ≡ true }
     requires at_bound { IfSome change.replaced (λ replaced. replaced.at < 8) }
@@ -31,108 +52,17 @@ fn accept(image: &mut [u8], change: Change) -> Answer
     change.answer
 }
 
-// A command write.
-pub(crate) fn command(image: &mut [u8], i: u8, code: u8) -> Answer
+// The event is shown what it looks at and judged by that, and what is decided is applied.
+#[inline(always)]
+#[tactic(auto, unfolding(chain::specs::Events::refused), using(crate::proofs::Shown::does, crate::proofs::Shown::lands, crate::proofs::Shown::declines, crate::proofs::Shown::is_seen_sound))]
+pub(crate) fn step(image: &mut [u8], e: Event) -> Answer
     requires image_form { is_image image.old ≡ true }
     requires chain_sound { sound (chain_in image.old) ≡ true }
-    ensures value { result ≡ (event_of (Command i code) (chain_in image.old)).answer }
+    ensures value { result ≡ (event_of e (chain_in image.old)).answer }
     ensures form_after { is_image image.new ≡ true }
-    ensures chain_after { chain_in image.new ≡ (event_of (Command i code) (chain_in image.old)).chain }
+    ensures chain_after { chain_in image.new ≡ (event_of e (chain_in image.old)).chain }
 {
-    let seen = seen_round(image, i, false);
-    command_verdict(seen.count, seen.at, seen.iack, code)?;
-    accept(image, seen.command(i, code))
-}
-
-// A data write.
-pub(crate) fn data_write(image: &mut [u8], i: u8, byte: u8) -> Answer
-    requires image_form { is_image image.old ≡ true }
-    requires chain_sound { sound (chain_in image.old) ≡ true }
-    ensures value { result ≡ (event_of (Data i byte) (chain_in image.old)).answer }
-    ensures form_after { is_image image.new ≡ true }
-    ensures chain_after { chain_in image.new ≡ (event_of (Data i byte) (chain_in image.old)).chain }
-{
-    let seen = seen_round(image, i, false);
-    data_verdict(seen.count, seen.at, seen.iack, seen.chip)?;
-    accept(image, seen.data_write(i, byte))
-}
-
-// A status read.
-pub(crate) fn status(image: &mut [u8], i: u8) -> Answer
-    requires image_form { is_image image.old ≡ true }
-    requires chain_sound { sound (chain_in image.old) ≡ true }
-    ensures value { result ≡ (event_of (Status i) (chain_in image.old)).answer }
-    ensures form_after { is_image image.new ≡ true }
-    ensures chain_after { chain_in image.new ≡ (event_of (Status i) (chain_in image.old)).chain }
-{
-    let seen = seen_round(image, i, walked(image, i).ei);
-    bus_verdict(seen.count, seen.at, seen.iack)?;
-    accept(image, seen.status(i))
-}
-
-// A data read.
-pub(crate) fn read(image: &mut [u8], i: u8) -> Answer
-    requires image_form { is_image image.old ≡ true }
-    requires chain_sound { sound (chain_in image.old) ≡ true }
-    ensures value { result ≡ (event_of (Read i) (chain_in image.old)).answer }
-    ensures form_after { is_image image.new ≡ true }
-    ensures chain_after { chain_in image.new ≡ (event_of (Read i) (chain_in image.old)).chain }
-{
-    let seen = seen_round(image, i, false);
-    bus_verdict(seen.count, seen.at, seen.iack)?;
-    accept(image, seen.read(i))
-}
-
-// A line takes a level.
-pub(crate) fn line(image: &mut [u8], i: u8, channel: u8, level: u8) -> Answer
-    requires image_form { is_image image.old ≡ true }
-    requires chain_sound { sound (chain_in image.old) ≡ true }
-    ensures value { result ≡ (event_of (Line i channel level) (chain_in image.old)).answer }
-    ensures form_after { is_image image.new ≡ true }
-    ensures chain_after { chain_in image.new ≡ (event_of (Line i channel level) (chain_in image.old)).chain }
-{
-    let seen = seen_round(image, i, false);
-    line_verdict(seen.count, seen.at, channel, level)?;
-    accept(image, seen.line(i, channel, level))
-}
-
-// The chain's Enable In takes a level.
-pub(crate) fn enable(image: &mut [u8], level: u8) -> Answer
-    requires image_form { is_image image.old ≡ true }
-    requires chain_sound { sound (chain_in image.old) ≡ true }
-    ensures value { result ≡ (event_of (Enable level) (chain_in image.old)).answer }
-    ensures form_after { is_image image.new ≡ true }
-    ensures chain_after { chain_in image.new ≡ (event_of (Enable level) (chain_in image.old)).chain }
-{
-    let seen = seen_round(image, image[COUNT], false);
-    level_verdict(level)?;
-    accept(image, seen.enable(level))
-}
-
-// IACK falls.
-pub(crate) fn fall(image: &mut [u8]) -> Answer
-    requires image_form { is_image image.old ≡ true }
-    requires chain_sound { sound (chain_in image.old) ≡ true }
-    ensures value { result ≡ (event_of Fall (chain_in image.old)).answer }
-    ensures form_after { is_image image.new ≡ true }
-    ensures chain_after { chain_in image.new ≡ (event_of Fall (chain_in image.old)).chain }
-{
-    let at = looked_at(image, Look::of(Event::Fall, response_in(image)));
-    let seen = seen_round(image, at, false);
-    fall_verdict(seen.iack)?;
-    accept(image, seen.fall())
-}
-
-// IACK rises.
-pub(crate) fn rise(image: &mut [u8]) -> Answer
-    requires image_form { is_image image.old ≡ true }
-    requires chain_sound { sound (chain_in image.old) ≡ true }
-    ensures value { result ≡ (event_of Rise (chain_in image.old)).answer }
-    ensures form_after { is_image image.new ≡ true }
-    ensures chain_after { chain_in image.new ≡ (event_of Rise (chain_in image.old)).chain }
-{
-    let at = looked_at(image, Look::of(Event::Rise, response_in(image)));
-    let seen = seen_round(image, at, false);
-    rise_verdict(seen.iack)?;
-    accept(image, seen.rise())
+    let seen = shown(image, e);
+    verdict(e, seen)?;
+    accept(image, seen.change(e))
 }

@@ -10,11 +10,11 @@ ghost use Rattle.chain.specs.Events.{event_of};
 ghost use Rattle.chain.specs.Sound.{sound};
 ghost use Rattle.image.specs.Reading.{chain_in, is_image};
 
-use crate::events::{command, data_write, enable, fall, line, read, rise, status};
+use crate::events::step;
 use event::Event;
 use refusal::Answer;
 
-// Any of the eight.
+// Any of the eight. An arm for each, in which the step is compiled for that event alone: so it reads and writes no more than it needs.
 pub fn on(image: &mut [u8], e: Event) -> Answer
     requires image_form { is_image image.old ≡ true }
     requires chain_sound { sound (chain_in image.old) ≡ true }
@@ -23,13 +23,13 @@ pub fn on(image: &mut [u8], e: Event) -> Answer
     ensures chain_after { chain_in image.new ≡ (event_of e (chain_in image.old)).chain }
 {
     match e {
-        Event::Command(i, code) => command(image, i, code),
-        Event::Data(i, byte) => data_write(image, i, byte),
-        Event::Status(i) => status(image, i),
-        Event::Read(i) => read(image, i),
-        Event::Line(i, channel, level) => line(image, i, channel, level),
-        Event::Enable(level) => enable(image, level),
-        Event::Fall => fall(image),
-        Event::Rise => rise(image),
+        Event::Command(i, code) => step(image, Event::Command(i, code)),
+        Event::Data(i, byte) => step(image, Event::Data(i, byte)),
+        Event::Status(i) => step(image, Event::Status(i)),
+        Event::Read(i) => step(image, Event::Read(i)),
+        Event::Line(i, channel, level) => step(image, Event::Line(i, channel, level)),
+        Event::Enable(level) => step(image, Event::Enable(level)),
+        Event::Fall => step(image, Event::Fall),
+        Event::Rise => step(image, Event::Rise),
     }
 }
