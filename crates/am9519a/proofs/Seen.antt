@@ -4,12 +4,11 @@ use Rattle.std.specs.Prelude.{Err}
 use mathlib.Core.Bool.{Bool, true, false, not, cond}
 use mathlib.Core.List.{List, [], ◌∷◌}
 use mathlib.Core.Path.{◌≡◌, refl, ap, ◌∙◌}
-use Prim.Native.Nat.{ℕ, ◌≤◌, ◌<◌}
+use Prim.Native.Nat.{ℕ}
 use lib.Dec.{ltb}
 use lib.ListN.{length}
-use borrow.Author.Tests.{lt-ltb, le-ltb}
 use Rattle.refusal.proofs.Numbers.{refused_already, accepted_so_far}
-use Rattle.refusal.specs.Numbers.{verdict_number, is_accepted, first_of_list}
+use Rattle.refusal.specs.Numbers.{is_accepted, first_of_list}
 use Rattle.refusal.specs.declared.Refusal.{Refusal}
 use Rattle.refusal.specs.declared.Refusal.TheVariants.{NotSound, ShortResults}
 use Rattle.refusal.specs.Numbers.{Verdict}
@@ -35,12 +34,6 @@ short_buffer n view = (ltb (length view) n, ShortResults)
 abbrev pub view_check : ℕ → List ℕ → ℕ → List ℕ → Verdict
 view_check n image chip view =
     first_of_list (not_an_image image ∷ not_sound (chain_in image) ∷ no_such_chip (chain_in image).count chip ∷ short_buffer n view ∷ [])
-
--- what a call passes on, made of what its parts hand back, is what the model's view has
-pub passed_on : {A : Type 0} (of : Chain → A) (verdict : A → Verdict) (bytes : A → List ℕ) (image view : List ℕ) (s : Chain) (seen : A) (shown : List ℕ) →
-    s ≡ chain_of image → seen ≡ of s → shown ≡ bytes seen → viewed (verdict seen) shown view ≡ viewed (verdict (of (chain_of image))) (bytes (of (chain_of image))) view
-passed_on of verdict bytes image view s seen shown chain is put =
-    ap (λ shown. viewed (verdict seen) shown view) put ∙ ap (λ seen. viewed (verdict seen) (bytes seen) view) (is ∙ ap of chain)
 
 -- of an image the view's own verdict comes first, then the room for its bytes; `none` is what a refused view has in the place of what it shows
 of_image : {A : Type 0} (bytes : A → List ℕ) (shown none : A) (n : ℕ) (image : List ℕ) (chip : ℕ) (view : List ℕ) →
@@ -90,16 +83,3 @@ pub pins_called : (image : List ℕ) (chip : ℕ) (view : List ℕ) →
     pins_call image chip view ≡ called (view_check 8 image chip view) view (over view 0 (picture_bytes (picture_of chip (chain_in image))))
 unfolding pins_call pin_view
 pins_called image chip view = in_image picture_bytes (picture_of chip) no_picture 8 image chip view refl
-
--- a view that is refused hands back its own number; room that is short is refused by 11
-pub view_refused : (verdict : Verdict) (bytes view : List ℕ) → is_accepted verdict ≡ false → viewed verdict bytes view ≡ record { number = verdict_number verdict; buffer = view }
-unfolding viewed called
-view_refused verdict bytes view off = simp off
-
-pub view_short : (verdict : Verdict) (bytes view : List ℕ) → is_accepted verdict ≡ true → length view < length bytes → viewed verdict bytes view ≡ record { number = 11; buffer = view }
-unfolding viewed called
-view_short verdict bytes view on h = simp (on, lt-ltb (length view) (length bytes) h)
-
-pub view_fits : (verdict : Verdict) (bytes view : List ℕ) → is_accepted verdict ≡ true → length bytes ≤ length view → viewed verdict bytes view ≡ record { number = 0; buffer = over view 0 bytes }
-unfolding viewed called
-view_fits verdict bytes view on h = simp (on, le-ltb (length view) (length bytes) h)

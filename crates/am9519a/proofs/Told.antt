@@ -4,35 +4,17 @@ use mathlib.Core.Bool.{Bool, true, false, cond}
 use mathlib.Core.List.{List}
 use mathlib.Core.Path.{◌≡◌, refl, sym, ap, ◌∙◌}
 use Prim.Native.Nat.{ℕ}
-use lib.ListN.{length}
-use borrow.Author.Tests.{ne_eqb, eq-eqb}
 use Rattle.refusal.proofs.Numbers.{not_both}
 use Rattle.refusal.specs.Numbers.{verdict_number, is_accepted}
 use Rattle.refusal.specs.Numbers.{Verdict}
-use Rattle.refusal.specs.Answers.{verdict_in}
 use Rattle.chain.proofs.Rules.{rules}
 use Rattle.chain.specs.Fields.{zero_chain}
 use Rattle.chain.specs.Sound.{sound}
-use Rattle.chain.specs.Start.{start_of}
 use Rattle.run.proofs.Before.{before-sound, refused_before}
 use Rattle.run.specs.Run.{Report, before_any, run_of}
 use Rattle.image.specs.Layout.{image_of}
 use Rattle.image.specs.Reading.{chain_in, is_image}
-use Rattle.am9519a.specs.Calls.{called, chain_of, start_call, run_left, run_call}
-
-pub start_short : (count fill : ℕ) (image : List ℕ) → (length image ≡ 528 → ⊥) → start_call count fill image ≡ record { number = 1; buffer = image }
-unfolding start_call called
-start_short count fill image h = simp (ne_eqb (length image) 528 h)
-
-pub start_refused : (count fill : ℕ) (image : List ℕ) → length image ≡ 528 → is_accepted (verdict_in (start_of count fill).answer) ≡ false →
-    start_call count fill image ≡ record { number = verdict_number (verdict_in (start_of count fill).answer); buffer = image }
-unfolding start_call called
-start_refused count fill image h off = simp (eq-eqb (length image) 528 h, off)
-
-pub start_done : (count fill : ℕ) (image : List ℕ) → length image ≡ 528 → is_accepted (verdict_in (start_of count fill).answer) ≡ true →
-    start_call count fill image ≡ record { number = verdict_number (verdict_in (start_of count fill).answer); buffer = image_of (start_of count fill).chain }
-unfolding start_call called
-start_done count fill image h on = simp (eq-eqb (length image) 528 h, on)
+use Rattle.am9519a.specs.Calls.{chain_of, run_left, run_call}
 
 -- what is no image has no sound chain, so nothing is run
 pub sound_image : (image : List ℕ) → sound (chain_of image) ≡ true → is_image image ≡ true

@@ -1,14 +1,16 @@
 // The chain that a call is about, the bytes of a view, and a view into a lent buffer.
 ghost use Rattle.std.specs.Prelude.{◌≡◌};
+ghost use Rattle.refusal.specs.Numbers.{verdict_number};
 ghost use Rattle.am9519a.specs.Calls.{chain_of, viewed, table_bytes, picture_bytes};
 
 use chain::Chain;
 use image::reading::chain_in;
 use image::writing::put_bytes;
-use refusal::{Refusal, Verdict, is_accepted, verdict_number};
+use refusal::{Refusal, Verdict};
 use views::{Pins, Registers};
 
 // The chain in an image; where there is none, one that is not sound, so that both are refused by 1.
+#[tactic(auto, unfolding(chain::specs::Start::start_of), using(image::proofs::OneToOne::image_length))]
 pub(crate) fn chain_of(image: &[u8]) -> Chain
     ensures { result ≡ chain_of image.now }
 {
@@ -54,17 +56,16 @@ pub(crate) fn picture_bytes(picture: Pins) -> [u8; 8]
     ]
 }
 
-// A view's number, and its bytes into the first bytes of a buffer: 11 where that is too short.
-pub(crate) fn put_view(view: &mut [u8], verdict: Verdict, bytes: &[u8]) -> u8
-    ensures value { result ≡ (viewed verdict bytes.now view.old).number }
+// A view's verdict, and its bytes into the first bytes of a buffer: refused where that is too short.
+#[tactic(auto, unfolding(crate::specs::Calls::viewed, crate::specs::Calls::called))]
+pub(crate) fn put_view(view: &mut [u8], verdict: Verdict, bytes: &[u8]) -> Verdict
+    ensures value { verdict_number result ≡ (viewed verdict bytes.now view.old).number }
     ensures view_after { view.new ≡ (viewed verdict bytes.now view.old).buffer }
 {
-    if !is_accepted(verdict) {
-        return verdict_number(verdict);
-    }
+    verdict?;
     if view.len() < bytes.len() {
-        return Refusal::ShortResults.number();
+        return Err(Refusal::ShortResults);
     }
     put_bytes(view, 0, bytes);
-    0
+    Ok(())
 }

@@ -2,7 +2,7 @@
 -- Assumes nothing.
 use native.Mathlib.Omega.{arith}
 use mathlib.Core.Bool.{and_comm, Bool, not, ◌&&◌}
-use mathlib.Core.Path.{◌≡◌, refl, ap, sym, subst, ◌∙◌}
+use mathlib.Core.Path.{◌≡◌, refl, ap, sym, ◌∙◌}
 use Prim.Native.Nat.{ℕ}
 use Rattle.bits.specs.Below.{digit}
 use Rattle.bits.specs.Byte.{bit}
@@ -13,8 +13,6 @@ use Rattle.views.specs.Views.{table_of, picture_of, register_view, pin_view}
 use Rattle.chain.specs.Fields.{chip_at}
 use Rattle.chain.specs.Pins.{ei}
 use Rattle.chain.specs.declared.Chain.{Chain}
-use Rattle.views.specs.declared.PinView.{PinView}
-use Rattle.views.specs.declared.RegisterView.{RegisterView}
 use Rattle.demands.specs.Agree.{gint_reads_active, Agree, Agreement}
 use Rattle.demands.specs.Rules.{StatusBits}
 use Rattle.demands.proofs.Rules.{byte_bits, by_the_rules}
@@ -40,10 +38,4 @@ one_state s chip =
 
 pub agreement : Agreement
 unfolding register_view pin_view
-agreement =
-    record {
-      agree = λ s chip e h.
-          subst (λ (v : RegisterView). Agree v.table (pin_view chip s).picture) (sym (by_the_rules.table s chip e h))
-          (subst (λ (v : PinView). Agree (table_of chip s) v.picture) (sym (by_the_rules.picture s chip e h)) (one_state s chip));
-      both_or_neither = λ s chip. refl;
-    }
+agreement = search (arith, by_the_rules, one_state)

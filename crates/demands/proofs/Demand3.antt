@@ -1,15 +1,14 @@
 -- The third demand, proved: along a wait the counted pulses are at most the answers for others, and each of these brings the request nearer. It
 -- starts at most seven places away.
 -- Assumes nothing.
-use mathlib.Core.Bool.{Bool, true, false, not, ◌&&◌}
+use mathlib.Core.Bool.{Bool, true, false, ◌&&◌}
 use mathlib.Core.List.{List, [], ◌∷◌}
-use mathlib.Core.Path.{◌≡◌, refl, ap, sym, subst}
+use mathlib.Core.Path.{◌≡◌, refl, ap}
 use Prim.Native.Nat.{ℕ, ◌+◌, ◌≤◌, ◌<◌}
 use native.Mathlib.Nat.{mod-lt}
 use native.Mathlib.Omega.{arith}
 use lib.Dec.{lit<}
-use borrow.Author.Tests.{not-true}
-use Rattle.bits.proofs.Below.{both_left, both_right}
+use Rattle.bits.proofs.Below.{both_left}
 use Rattle.bits.specs.Below.{digit}
 use Rattle.search.proofs.Rotating.{place_of}
 use Rattle.chain.specs.Events.{event_of}
@@ -35,20 +34,7 @@ record Begins (s : Chain) (i channel : ℕ) (e : Event) (es : List Event) : Type
 
 begins : (s : Chain) (i channel : ℕ) (e : Event) (es : List Event) → Waited s i channel (e ∷ es) → Begins s i channel e es
 unfolding is_wait
-begins s i channel e es w =
-    let three = both_left (waits (chip_at s i) channel && not (resets i e s) && not (answers_it i channel e s)) _ w.waits_through in
-    let two = both_left (waits (chip_at s i) channel && not (resets i e s)) _ three in
-    record {
-      waiting = both_left (waits (chip_at s i) channel) _ two;
-      no_reset = not-true (resets i e s) (both_right (waits (chip_at s i) channel) _ two);
-      no_answer = not-true (answers_it i channel e s) (both_right (waits (chip_at s i) channel && not (resets i e s)) _ three);
-      then = record {
-        sound_chain = events_keep.sound_kept e s w.sound_chain;
-        in_the_count = subst (λ (n : ℕ). i < n) (sym (events_keep.count_kept e s)) w.in_the_count;
-        a_channel = w.a_channel;
-        waits_through = both_right (waits (chip_at s i) channel && not (resets i e s) && not (answers_it i channel e s)) _ w.waits_through;
-      };
-    }
+begins s i channel e es w = search (arith, both_left, events_keep)
 
 digit_le : (a b : Bool) → (a ≡ true → b ≡ true) → digit a ≤ digit b
 digit_le a b implies = search arith

@@ -1,24 +1,18 @@
 -- The calls from C, proved: a call's verdict decides its number and what it writes; a run's number tells which of its two parts decided.
 -- Assumes nothing.
 use native.Mathlib.Omega.{arith}
-use Rattle.std.specs.Prelude.{Ok, Err}
-use mathlib.Core.Bool.{Bool, true, false, not, cond}
+use mathlib.Core.Bool.{Bool, true, false, not}
 use mathlib.Core.List.{List, [], ◌∷◌, ◌++◌}
 use mathlib.Core.Path.{◌≡◌, refl, ap, sym, subst, ◌∙◌}
-use Prim.Native.Nat.{ℕ, ◌+◌, ◌%◌, ◌/◌, ◌<◌, min}
-use native.Mathlib.Nat.{zero-add}
-use lib.Dec.{eqb, ltb}
+use Prim.Native.Nat.{ℕ, ◌%◌, ◌/◌, ◌<◌, min}
+use lib.Dec.{eqb}
 use lib.ListN.{length, drop}
 use lib.Seq.{drop_at}
-use Rattle.bits.proofs.Below.{either}
-use Rattle.refusal.proofs.Numbers.{not_both, passed_first, passed_rest, accepted_is}
+use Rattle.refusal.proofs.Numbers.{not_both}
 use Rattle.refusal.specs.Numbers.{verdict_number, is_accepted, first_of_list, Verdict}
 use Rattle.refusal.specs.declared.Refusal.TheVariants.{NotSound, BrokenEvent, ShortResults}
 use Rattle.views.specs.Views.{table_of, picture_of}
-use Rattle.decide.specs.Refusals.{no_such_chip}
-use Rattle.chain.specs.Refusals.{not_sound}
 use Rattle.chain.proofs.Rules.{rules}
-use Rattle.chain.specs.Fields.{zero_chain}
 use Rattle.chain.specs.Sound.{sound, count_sound}
 use Rattle.chain.specs.Start.{start_of}
 use Rattle.chain.specs.declared.Chain.{Chain}
@@ -31,20 +25,18 @@ use Rattle.image.proofs.OneToOne.{one_to_one}
 use Rattle.image.specs.Layout.{head, image_of, over}
 use Rattle.image.specs.OneToOne.{Whole}
 use Rattle.image.specs.Reading.{byte, chain_in, is_image}
-use Rattle.am9519a.proofs.Seen.{not_an_image, short_buffer, view_check, registers_called, pins_called}
+use Rattle.am9519a.proofs.Seen.{view_check, registers_called, pins_called}
 use Rattle.am9519a.proofs.Told.{run_ready, run_done}
 use Rattle.am9519a.proofs.Told as told
 use Rattle.am9519a.specs.Calls.{Called, RunCalled, called, chain_of, table_bytes, picture_bytes, start_call, run_left, run_call, registers_call, pins_call}
 use Rattle.demands.specs.Agree.{Agree}
 use Rattle.demands.specs.FromC.{is_before_any, no_image, view_entries, Left, FromC, BytesAgree, AsTheModel}
-use Rattle.event.specs.declared.Numbered.{Numbered}
-use Rattle.demands.specs.Table.{Entry, given, run_entries, listed_entries, last_entries, four_bytes}
+use Rattle.demands.specs.Table.{Entry, given, run_entries, last_entries}
 use Rattle.demands.proofs.Agree.{one_state}
 use Rattle.demands.proofs.Rules.{by_the_rules}
 use Rattle.demands.proofs.Runs.{runs_keep}
-use Rattle.demands.proofs.Table.{first-given, by_the_table}
+use Rattle.demands.proofs.Table.{by_the_table}
 use Rattle.demands.proofs.Whole.{run_whole, start_whole}
-use Rattle.run.proofs.Before as before_any_lem
 
 -- a call by its verdict
 refused_leaves : (v : Verdict) (old new : List ℕ) → ((called v old new).number ≡ 0 → ⊥) → (called v old new).buffer ≡ old
@@ -54,10 +46,6 @@ refused_leaves v old new other = search arith
 accepted_writes : (v : Verdict) (old new : List ℕ) → (called v old new).number ≡ 0 → (called v old new).buffer ≡ new
 unfolding called
 accepted_writes v old new e = search arith
-
-is_accepted_lem : (v : Verdict) (old new : List ℕ) → (called v old new).number ≡ 0 → v ≡ Ok tt
-unfolding called
-is_accepted_lem v old new e = search arith
 
 called_by : (v : Verdict) (old new : List ℕ) → (called v old new).number ≡ verdict_number v
 unfolding called
@@ -72,15 +60,7 @@ start_number count fill image = search arith
 -- a view
 view_rest : (v : Verdict) (view new : List ℕ) (n : ℕ) → length new ≡ n → drop n (called v view (over view 0 new)).buffer ≡ drop n view
 unfolding called
-view_rest (Ok tt) view new n is =
-    drop_at new (drop (0 + length new) view) n is ∙ ap (λ (m : ℕ). drop m view) (zero-add (length new) ∙ is)
-view_rest (Err why) view new n is = refl
-
--- one that is accepted is of an image, of a sound chain, and of a chip in its count
-seen : (n : ℕ) (image : List ℕ) (chip : ℕ) (view : List ℕ) (s : Chain)
-    → first_of_list (not_an_image image ∷ not_sound s ∷ no_such_chip s.count chip ∷ short_buffer n view ∷ []) ≡ Ok tt
-    → (is_image image ≡ true) × ((sound s ≡ true) × (chip < s.count))
-seen n image chip view s is = search arith
+view_rest v view new n is = search (arith, drop_at)
 
 -- the bytes of views that agree
 bytes_agree : (t : Registers) (p : Pins) (table picture : List ℕ) → Agree t p → BytesAgree (over table 0 (table_bytes t)) (over picture 0 (picture_bytes p))
@@ -102,39 +82,14 @@ later_given [] h = refl
 later_given ((n, true) ∷ l) h = h.0 refl
 later_given ((n, false) ∷ l) h = later_given l h.1
 
--- of a sound chain no event is refused by one of them
-listed_later : (e : Numbered) (s : Chain) → sound s ≡ true → Later (listed_entries e s)
-listed_later e s is = search arith
-
 run_later : (s : Chain) (events : List ℕ) (limit : ℕ) (results : List ℕ) → is_accepted (before_any s events results) ≡ true
     → Later (run_entries s events results ++ last_entries events (min limit (length events / 4)) (run_of s events limit results))
 unfolding before_any
-run_later s events limit results on =
-    let is : sound s ≡ true = before_any_lem.before-sound s events results on in
-    let rest : first_of_list (broken_event (length events) ∷ short_results (length events) (length results) ∷ []) ≡ Ok tt =
-    passed_rest (not (sound s)) NotSound (broken_event (length events) ∷ short_results (length events) (length results) ∷ []) (accepted_is _ on) in
-    let whole : (broken_event (length events)).0 ≡ false = passed_first (broken_event (length events)).0 BrokenEvent (short_results (length events) (length results) ∷ []) rest in
-    let room : (short_results (length events) (length results)).0 ≡ false =
-    passed_first (short_results (length events) (length results)).0 ShortResults [] (passed_rest (broken_event (length events)).0 BrokenEvent (short_results (length events) (length results) ∷ []) rest) in
-    let r : Report = run_of s events limit results in (
-      λ a. not_both (sym (ap not is) ∙ a),
-      (
-        λ a. not_both (sym whole ∙ a),
-        (
-          λ a. not_both (sym room ∙ a),
-          either Later (ltb r.ran.accepted (min limit (length events / 4))) _ _
-              (λ within. listed_later (four_bytes events r.ran.accepted) r.ran.chain (runs_keep.sound_kept s events limit results is))
-              (λ at-end. tt),
-        ),
-      ),
-    )
+run_later s events limit results on = search (arith, runs_keep)
 
 at_event_number : (s : Chain) (events : List ℕ) (limit : ℕ) (results : List ℕ) → is_accepted (before_any s events results) ≡ true
     → is_before_any (verdict_number (run_of s events limit results).ran.verdict) ≡ false
-at_event_number s events limit results on =
-    ap is_before_any (by_the_table.run s events limit results)
-    ∙ later_given (run_entries s events results ++ last_entries events (min limit (length events / 4)) (run_of s events limit results))
-    (run_later s events limit results on)
+at_event_number s events limit results on = search (arith, by_the_table, later_given, run_later)
 
 -- a run from C: 1, 10 and 11 leave everything, and otherwise it is the model's run on the chain in the image
 run_called : (P : RunCalled → Type 0) (image events : List ℕ) (limit : ℕ) (results : List ℕ) (accepted : ℕ)
@@ -197,28 +152,13 @@ called_number image events limit results accepted = search arith
 
 image_number : (image events : List ℕ) (limit : ℕ) (results : List ℕ) (accepted : ℕ) → is_image image ≡ true
     → (run_call image events limit results accepted).number ≡ verdict_number (run_of (chain_in image) events limit results).ran.verdict
-image_number image events limit results accepted is =
-    called_number image events limit results accepted
-    ∙ ap (λ (b : Bool). verdict_number (run_of (cond b (chain_in image) zero_chain) events limit results).ran.verdict) is
+image_number image events limit results accepted is = search (arith, called_number)
 
 run_number : (image events : List ℕ) (limit : ℕ) (results : List ℕ) (accepted : ℕ)
     → (run_call image events limit results accepted).number
     ≡ given (no_image image ∷ run_entries (chain_in image) events results ++ last_entries events (min limit (length events / 4)) (run_of (chain_in image) events limit results))
 unfolding rules before_any run_of
-run_number image events limit results accepted = by (is_image image) refl
-  where
-    entries : List Entry
-    entries = run_entries (chain_in image) events results ++ last_entries events (min limit (length events / 4)) (run_of (chain_in image) events limit results)
-
-    by : (is : Bool) → is_image image ≡ is → (run_call image events limit results accepted).number ≡ given (no_image image ∷ entries)
-    by true is =
-        image_number image events limit results accepted is
-        ∙ by_the_table.run (chain_in image) events limit results
-        ∙ sym (ap (λ (b : Bool). cond (not b) 1 (given entries)) is)
-    by false is =
-        called_number image events limit results accepted
-        ∙ ap (λ (b : Bool). verdict_number (run_of (cond b (chain_in image) zero_chain) events limit results).ran.verdict) is
-        ∙ sym (ap (λ (b : Bool). cond (not b) 1 (given entries)) is)
+run_number image events limit results accepted = search (arith, by_the_table, called_number)
 
 not-started : (count fill : ℕ) (image : List ℕ) → ((start_call count fill image).number ≡ 0 → ⊥) → (start_call count fill image).buffer ≡ image
 unfolding start_call
@@ -239,16 +179,7 @@ record OfImage (n : ℕ) (image : List ℕ) (chip : ℕ) (view bytes : List ℕ)
 of_image : (n : ℕ) (image : List ℕ) (chip : ℕ) (view bytes : List ℕ) (c : Called) → c ≡ called (view_check n image chip view) view (over view 0 bytes)
     → length bytes ≡ n
     → OfImage n image chip view bytes c
-of_image n image chip view bytes c is long =
-    subst (OfImage n image chip view bytes) (sym is)
-    (record {
-      number = called_by (view_check n image chip view) view (over view 0 bytes)
-          ∙ first-given (not_an_image image ∷ not_sound (chain_in image) ∷ no_such_chip (chain_in image).count chip ∷ short_buffer n view ∷ []);
-      refused = refused_leaves (view_check n image chip view) view (over view 0 bytes);
-      rest = view_rest (view_check n image chip view) view bytes n long;
-      shown = accepted_writes (view_check n image chip view) view (over view 0 bytes);
-      of_a_chip = λ e. seen n image chip view (chain_in image) (is_accepted_lem (view_check n image chip view) view (over view 0 bytes) e);
-    })
+of_image n image chip view bytes c is long = search (arith, called_by, refused_leaves, view_rest, accepted_writes)
 
 table : (image : List ℕ) (chip : ℕ) (view : List ℕ) → OfImage 9 image chip view (table_bytes (table_of chip (chain_in image))) (registers_call image chip view)
 table image chip view = of_image 9 image chip view (table_bytes (table_of chip (chain_in image))) (registers_call image chip view) (registers_called image chip view) refl
@@ -258,24 +189,10 @@ picture image chip view = of_image 8 image chip view (picture_bytes (picture_of 
 
 head_event : (image : List ℕ) → is_image image ≡ true → ((chain_in image).event % 256 ≡ byte image 3) × ((chain_in image).event / 256 ≡ byte image 4)
 unfolding image_of head
-head_event image is =
-    let again : image_of (chain_in image) ≡ image = one_to_one.written_back image is in
-    (ap (λ (b : List ℕ). byte b 3) again, ap (λ (b : List ℕ). byte b 4) again)
+head_event image is = search (arith, one_to_one)
 
 pub from_c : FromC
-from_c =
-    record {
-      start_number = start_number;
-      run_number = run_number;
-      registers_number = λ image chip view. (table image chip view).number;
-      pins_number = λ image chip view. (picture image chip view).number;
-      start_refused = not-started;
-      run_refused = run_refused;
-      registers_refused = λ image chip view. (table image chip view).refused;
-      pins_refused = λ image chip view. (picture image chip view).refused;
-      registers_rest = λ image chip view. (table image chip view).rest;
-      pins_rest = λ image chip view. (picture image chip view).rest;
-    }
+from_c = search (arith, start_number, run_number, table, picture, not-started, run_refused)
 
 pub as_the_model : AsTheModel
 as_the_model =

@@ -1,26 +1,24 @@
 -- What the events keep, proved: what a change leaves of a chain, once, and by the event only which chip it may replace.
 -- Assumes nothing.
 use Rattle.std.proofs.lemmas.Option.{IfSome_then}
-use Rattle.std.specs.Prelude.{Some, None, Ok, Err, Option, IfSome}
-use mathlib.Core.Bool.{Bool, true, false, ◌&&◌}
+use Rattle.std.specs.Prelude.{Some, None, Ok, IfSome}
+use mathlib.Core.Bool.{Bool, true, false}
 use mathlib.Core.List.{List, [], ◌∷◌}
-use mathlib.Core.Logic.{⊎_elim}
-use mathlib.Core.Path.{◌≡◌, refl, ap, ap₂, sym, subst, ◌∙◌}
+use mathlib.Core.Path.{◌≡◌, refl, ap, sym, subst, ◌∙◌}
 use Prim.Native.Nat.{ℕ, ◌+◌, ◌%◌, ◌≤◌, ◌<◌}
 use native.Mathlib.Omega.{arith}
 use lib.Dec.{eqb}
-use lib.ListN.{get_or, set, length, length-set}
+use lib.ListN.{length, length-set}
 use lib.Seq.{get_or-set_other}
-use borrow.Author.Tests.{eqb-true, eqb-false, eq-eqb, ne_eqb}
+use borrow.Author.Tests.{eq-eqb}
 use Rattle.bits.specs.Below.{digit}
 use Rattle.bits.proofs.Below.{both_not}
 use Rattle.bits.proofs.Stored.{stored}
-use Rattle.refusal.proofs.Numbers.{not_zero, not_both}
+use Rattle.refusal.proofs.Numbers.{not_both}
 use Rattle.refusal.specs.Answers.{verdict_in, handed}
-use Rattle.refusal.specs.Numbers.{refusal_number, verdict_number, is_accepted, Answer, Verdict}
+use Rattle.refusal.specs.Numbers.{verdict_number, is_accepted, Answer, Verdict}
 use Rattle.event.specs.declared.Event.{Event}
 use Rattle.event.specs.declared.Event.TheVariants.{Command, Data, Status, Read, Line, Enable, Fall, Rise}
-use Rattle.chip.specs.Fields.{zero_chip}
 use Rattle.chip.specs.declared.Chip.{Chip}
 use Rattle.response.specs.Held.{is_idle, is_responding, Response}
 use Rattle.response.specs.declared.Reply.{Reply}
@@ -30,19 +28,17 @@ use Rattle.decide.proofs.Soundness.{selected_is}
 use Rattle.decide.specs.Look.{unless_responding}
 use Rattle.decide.specs.Pulse.{selected_by}
 use Rattle.decide.specs.declared.Change.{Change}
-use Rattle.decide.specs.declared.Own.{Own}
-use Rattle.decide.specs.declared.Replaced.{Replaced}
-use Rattle.decide.specs.declared.Look.TheVariants.{Nowhere, Answering}
+use Rattle.decide.specs.declared.Look.TheVariants.{Nowhere}
 use Rattle.chain.proofs.Kept as kept
 use Rattle.chain.proofs.Number.{applied_number}
 use Rattle.chain.proofs.Passed.{passed_sound, passed_tests}
 use Rattle.chain.proofs.Rules.{chain_fields, applying}
 use Rattle.chain.proofs.Soundness.{under_way_parts, selected-sound}
-use Rattle.chain.specs.Apply.{replacing_in, replaced_in, setting_in, applied, decision, answer_of, counted}
+use Rattle.chain.specs.Apply.{applied, decision, answer_of, counted}
 use Rattle.chain.specs.Events.{accepted, refused, judged, event_of}
 use Rattle.chain.specs.Fields.{chip_at}
 use Rattle.chain.specs.Refusals.{verdict_of}
-use Rattle.chain.specs.Seen.{looked_at, seen_at, seen_in, seen_by, selected}
+use Rattle.chain.specs.Seen.{looked_at, seen_at, seen_by, selected}
 use Rattle.chain.specs.Sound.{sound}
 use Rattle.chain.specs.declared.Chain.{Chain}
 use Rattle.demands.specs.Along.{after, along, accepted_in}
@@ -53,41 +49,16 @@ use Rattle.demands.proofs.Puts.{puts}
 pub applied_there : (P : Chip → Type 0) (c : Change) (s : Chain) (k : ℕ) → IfSome c.replaced (λ replaced. replaced.at ≡ k → P replaced.chip) → P (chip_at s k)
     → P (chip_at (applied c s) k)
 unfolding applying
-applied_there P c s k new old = set c.own (replaced_in c s) (put c.replaced new)
-  where
-    there : (r : Replaced) (here : Bool) → eqb r.at k ≡ here → (r.at ≡ k → P r.chip) → P (get_or (set s.chips r.at r.chip) k zero_chip)
-    there r true here new =
-        ⊎_elim (λ is. subst P (sym is) (new (eqb-true r.at k here))) (λ is. subst P (sym is) old) (stored s.chips r.at k r.chip zero_chip)
-    there r false elsewhere new =
-        subst P (sym (get_or-set_other s.chips r.at k r.chip zero_chip (λ is. eqb-false r.at k elsewhere (sym is)))) old
-
-    put : (replaced : Option Replaced) → IfSome replaced (λ replaced. replaced.at ≡ k → P replaced.chip) → P (chip_at (replacing_in replaced s) k)
-    put (Some r) new = there r (eqb r.at k) refl new
-    put None new = old
-
-    set : (own : Option Own) (t : Chain) → P (chip_at t k) → P (chip_at (setting_in own t) k)
-    set (Some own) t here = here
-    set None t here = here
+applied_there P c s k new old = search (arith, stored, get_or-set_other)
 
 pub applied_records : (c : Change) (s : Chain) → length (applied c s).chips ≡ length s.chips
 unfolding applying
-applied_records c s = set c.own (replaced_in c s) ∙ put c.replaced
-  where
-    put : (replaced : Option Replaced) → length (replacing_in replaced s).chips ≡ length s.chips
-    put (Some r) = length-set s.chips r.at r.chip
-    put None = refl
-
-    set : (own : Option Own) (t : Chain) → length (setting_in own t).chips ≡ length t.chips
-    set (Some own) t = refl
-    set None t = refl
+applied_records c s = search (arith, length-set)
 
 -- an event replaces no chip but the one that it may replace
 pub first_there : (s : Chain) (r : Reply) → s.response ≡ None → selected_by (seen_by Fall s) ≡ Some r → replaces Fall s (seen_by Fall s).at ≡ true
 unfolding selected
-first_there s r idle found =
-    let is : selected s ≡ Some r = ap (λ response. selected_by (seen_in (unless_responding Answering response) s)) (sym idle) ∙ found in
-    ap₂ (λ (response found : Response). is_idle response && is_responding found (seen_by Fall s).at) idle is
-    ∙ eq-eqb r.chip (seen_by Fall s).at (ap (λ (r : Reply). r.chip) (selected_is (seen_by Fall s) r found).1)
+first_there s r idle found = search (arith, selected_is)
 
 within : (e : Event) (s : Chain) → IfSome (decision e s).replaced (λ replaced. replaces e s replaced.at ≡ true)
 unfolding decision seen_at
@@ -136,12 +107,10 @@ not-past : (i count k : ℕ) → i < count → count ≤ k → eqb i k ≡ false
 not-past i count k h l = search arith
 
 selected-past : (found : Response) (s : Chain) (k : ℕ) → selected s ≡ found → sound s ≡ true → s.count ≤ k → is_responding found k ≡ false
-selected-past None s k is e l = refl
-selected-past (Some r) s k is e l = not-past r.chip s.count k (selected-sound s r e is).chip l
+selected-past found s k is e l = search (arith, selected-sound)
 
 response_past : (response : Response) (s : Chain) (k : ℕ) → s.response ≡ response → sound s ≡ true → s.count ≤ k → is_responding response k ≡ false
-response_past None s k is e l = refl
-response_past (Some r) s k is e l = not-past r.chip s.count k (under_way_parts s r e is).chip l
+response_past response s k is e l = search (arith, under_way_parts)
 
 past : (e : Event) (s : Chain) (k : ℕ) → verdict_of e s ≡ Ok tt → s.count ≤ k → replaces e s k ≡ false
 unfolding seen_at
@@ -166,21 +135,13 @@ answers_zero e s = sym (answer_number (answer_of e s)) ∙ ap verdict_number (de
 pub no_event : (n : ℕ) → n < 65536 → n ≡ (n + 0) % 65536
 no_event n h = omega arith
 
-no_step : (n a : ℕ) → (n + a) % 65536 ≡ (n + (0 + a)) % 65536
-no_step n a = omega arith
-
-mod_step : (n a : ℕ) → ((n + 1) % 65536 + a) % 65536 ≡ (n + (1 + a)) % 65536
-mod_step n a = omega arith
-
 zero_judged : (v : Verdict) (e : Event) (s : Chain) → eqb (handed (judged v e s).answer).number 0 ≡ is_accepted v
 unfolding judged accepted refused
-zero_judged (Err why) e s = ne_eqb (refusal_number why) 0 (not_zero why)
-zero_judged (Ok tt) e s = eq-eqb (handed (answer_of e s)).number 0 (answers_zero e s)
+zero_judged v e s = search (arith, answers_zero)
 
 number_judged : (v : Verdict) (e : Event) (s : Chain) (a : ℕ) → ((judged v e s).chain.event + a) % 65536 ≡ (s.event + (digit (is_accepted v) + a)) % 65536
 unfolding chain_fields judged accepted refused counted
-number_judged (Err why) e s a = no_step s.event a
-number_judged (Ok tt) e s a = ap (λ (n : ℕ). ((n + 1) % 65536 + a) % 65536) (applied_number (decision e s) s) ∙ mod_step s.event a
+number_judged v e s a = search (arith, applied_number)
 
 number_lt : (v : Verdict) (e : Event) (s : Chain) → s.event < 65536 → (judged v e s).chain.event < 65536
 unfolding chain_fields judged accepted refused counted

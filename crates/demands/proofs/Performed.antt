@@ -6,7 +6,7 @@ use mathlib.Core.List.{List}
 use mathlib.Core.Path.{◌≡◌, refl, ap, sym, ◌∙◌, subst}
 use Prim.Native.Nat.{ℕ, zero, suc, ◌+◌, ◌*◌, ◌≤◌, ◌<◌, min}
 use native.Mathlib.Omega.{arith}
-use lib.ListN.{get_or, set, length, length-set}
+use lib.ListN.{get_or, length, length-set}
 use lib.Seq.{get_or-set_same, get_or-set_other}
 use Rattle.refusal.specs.Numbers.{is_accepted}
 use Rattle.refusal.specs.Answers.{verdict_in, Handed, handed}
@@ -20,19 +20,13 @@ use Rattle.demands.specs.Runs.{Performed}
 
 -- an event's two bytes, and the other bytes of the results
 pub noted_other : (n : ℕ) (h : Handed) (results : List ℕ) (i : ℕ) → (i ≡ 2 * n → ⊥) → (i ≡ 2 * n + 1 → ⊥) → get_or (noted n h results) i 0 ≡ get_or results i 0
-noted_other n h results i first second =
-    get_or-set_other (set results (2 * n) h.drove) (2 * n + 1) i h.byte 0 second
-    ∙ get_or-set_other results (2 * n) i h.drove 0 first
+noted_other n h results i first second = search (arith, get_or-set_other)
 
 noted_drove : (n : ℕ) (h : Handed) (results : List ℕ) → 2 * (n + 1) ≤ length results → get_or (noted n h results) (2 * n) 0 ≡ h.drove
-noted_drove n h results room =
-    get_or-set_other (set results (2 * n) h.drove) (2 * n + 1) (2 * n) h.byte 0 (λ is. absurd (omega (arith, is)))
-    ∙ get_or-set_same results (2 * n) h.drove 0 (omega arith)
+noted_drove n h results room = search (arith, get_or-set_other, get_or-set_same)
 
 noted-byte : (n : ℕ) (h : Handed) (results : List ℕ) → 2 * (n + 1) ≤ length results → get_or (noted n h results) (2 * n + 1) 0 ≡ h.byte
-noted-byte n h results room =
-    let same : length (set results (2 * n) h.drove) ≡ length results = length-set results (2 * n) h.drove in
-    get_or-set_same (set results (2 * n) h.drove) (2 * n + 1) h.byte 0 (omega (arith, same, room))
+noted-byte n h results room = search (arith, length-set, get_or-set_same)
 
 pub none_left : (bytes : List ℕ) (n : ℕ) (s : Chain) (results : List ℕ) → run_from 0 bytes n s results ≡ stopped (Ok tt) n s results
 unfolding run_from

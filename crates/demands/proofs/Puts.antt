@@ -4,22 +4,21 @@
 use native.Mathlib.Omega.{arith}
 use Rattle.std.specs.Prelude.{Some, None, IfSome}
 use mathlib.Core.Bool.{Bool}
-use mathlib.Core.Path.{◌≡◌, refl}
+use mathlib.Core.Path.{◌≡◌}
 use Prim.Native.Nat.{ℕ}
 use lib.Dec.{eqb}
 use Rattle.event.specs.declared.Event.{Event}
-use Rattle.event.specs.declared.Event.TheVariants.{Command, Data, Status, Read, Line, Enable, Fall, Rise}
+use Rattle.event.specs.declared.Event.TheVariants.{Command, Data, Line, Fall, Rise}
 use Rattle.chip.specs.Acknowledge.{answered, finished}
 use Rattle.chip.specs.Command.{commanded}
 use Rattle.chip.specs.Data.{data_written}
 use Rattle.figure4.specs.Figure4.{figure4}
 use Rattle.chip.specs.Line.{line_set}
 use Rattle.chip.specs.declared.Chip.{Chip}
-use Rattle.response.specs.Held.{ends_response, Response}
+use Rattle.response.specs.Held.{Response}
 use Rattle.response.specs.declared.Reply.{Reply}
 use Rattle.decide.proofs.Rules.{changes}
-use Rattle.decide.specs.Change.{nothing, replacing}
-use Rattle.decide.specs.Decided.{ending, decided}
+use Rattle.decide.specs.Decided.{decided}
 use Rattle.decide.specs.Pulse.{selected_by, driving, first_pulse, fallen, risen_after, risen}
 use Rattle.decide.specs.declared.Change.{Change}
 use Rattle.decide.specs.declared.Seen.{Seen}
@@ -36,10 +35,6 @@ pub record Ways (by : Event → Seen) (P : Event → Chip → Type 0) : Type 0 w
 abbrev Puts : Seen → (Chip → Type 0) → Change → Type 0
 Puts v P c = IfSome c.replaced (λ replaced. (replaced.at ≡ v.at) × P replaced.chip)
 
-ending_puts : (ends : Bool) (v : Seen) (P : Chip → Type 0) (c : Change) → Puts v P c → Puts v P (ending ends v c)
-unfolding changes
-ending_puts ends v P c holds = search arith
-
 first_puts : (found : Response) (v : Seen) (P : Chip → Type 0) → selected_by v ≡ found → ((r : Reply) → selected_by v ≡ Some r → P (answered r.channel v.chip))
     → Puts v P (first_pulse found v)
 unfolding changes driving first_pulse
@@ -49,8 +44,7 @@ fallen_puts : (response : Response) (v : Seen) (P : Chip → Type 0) → v.respo
     → ((r : Reply) → v.response ≡ None → selected_by v ≡ Some r → P (answered r.channel v.chip))
     → Puts v P (fallen response v)
 unfolding changes driving fallen
-fallen_puts None v P is holds = first_puts (selected_by v) v P refl (λ r found. holds r is found)
-fallen_puts (Some r) v P is holds = tt
+fallen_puts response v P is holds = search (arith, first_puts)
 
 after_puts : (last : Bool) (r : Reply) (v : Seen) (P : Chip → Type 0) → P (finished r.channel v.chip) → Puts v P (risen_after last r v)
 unfolding changes risen_after
@@ -60,19 +54,8 @@ risen_puts : (response : Response) (v : Seen) (P : Chip → Type 0) → v.respon
     → ((r : Reply) → v.response ≡ Some r → P (finished r.channel v.chip))
     → Puts v P (risen response v)
 unfolding changes risen
-risen_puts None v P is holds = tt
-risen_puts (Some r) v P is holds = after_puts (eqb r.delivered r.length) r v P (holds r is)
+risen_puts response v P is holds = search (arith, after_puts)
 
 pub puts : (by : Event → Seen) (P : Event → Chip → Type 0) → Ways by P → (e : Event) → Puts (by e) (P e) (decided e (by e))
 unfolding changes decided
-puts by P w (Command i code) =
-    let v : Seen = by (Command i code) in
-    ending_puts (ends_response v.at code v.response) v (P (Command i code)) (replacing v.at (commanded (figure4 code) code v.chip) nothing)
-    (refl, w.command i code)
-puts by P w (Data i byte) = (refl, w.data_write i byte)
-puts by P w (Status i) = tt
-puts by P w (Read i) = tt
-puts by P w (Line i channel level) = (refl, w.line i channel level)
-puts by P w (Enable level) = tt
-puts by P w Fall = fallen_puts (by Fall).response (by Fall) (P Fall) refl w.first_pulse_lem
-puts by P w Rise = risen_puts (by Rise).response (by Rise) (P Rise) refl w.last_rise
+puts by P w e = search (arith, fallen_puts, risen_puts)

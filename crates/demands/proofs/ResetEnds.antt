@@ -1,5 +1,6 @@
 -- A reset ends a wait: it disarms the chip.
 -- Assumes nothing.
+use native.Mathlib.Omega.{arith}
 use Rattle.std.specs.Prelude.{Ok, Some}
 use mathlib.Core.Bool.{Bool, true, false, ◌&&◌}
 use mathlib.Core.Path.{◌≡◌, refl, ap, ◌∙◌}
@@ -7,9 +8,9 @@ use Prim.Native.Nat.{ℕ}
 use lib.Dec.{eqb}
 use borrow.Author.Tests.{eqb-true}
 use Rattle.bits.proofs.Below.{either, both_left, both_right}
-use Rattle.refusal.proofs.Numbers.{not_both, accepted_is}
+use Rattle.refusal.proofs.Numbers.{accepted_is}
 use Rattle.event.specs.declared.Event.{Event}
-use Rattle.event.specs.declared.Event.TheVariants.{Command, Data, Status, Read, Line, Enable, Fall, Rise}
+use Rattle.event.specs.declared.Event.TheVariants.{Command}
 use Rattle.figure4.specs.Figure4.{figure4, is_reset}
 use Rattle.chip.proofs.Rules.{chip_rules}
 use Rattle.chip.specs.Command.{commanded}
@@ -66,11 +67,4 @@ reset_there s i channel j code r =
     rw ok (rw at (rw zero (reset_done s i channel)))
 
 pub reset_ends : (e : Event) (s : Chain) (i channel : ℕ) → resets i e s ≡ true → waits (chip_at (event_of e s).chain i) channel ≡ false
-reset_ends (Command j code) s i channel r = reset_there s i channel j code r
-reset_ends (Data j byte) s i channel r = not_both r
-reset_ends (Status j) s i channel r = not_both r
-reset_ends (Read j) s i channel r = not_both r
-reset_ends (Line j k level) s i channel r = not_both r
-reset_ends (Enable level) s i channel r = not_both r
-reset_ends Fall s i channel r = not_both r
-reset_ends Rise s i channel r = not_both r
+reset_ends e s i channel r = search (arith, reset_there)

@@ -2,19 +2,17 @@
 -- Assumes nothing.
 use Rattle.std.specs.Prelude.{Ok}
 use mathlib.Core.Bool.{Bool, true, false}
-use mathlib.Core.Path.{◌≡◌, refl, ap, sym, subst, ◌∙◌}
-use Prim.Native.Nat.{ℕ, ◌+◌, ◌*◌, ◌/◌, ◌%◌, ◌<◌}
+use mathlib.Core.Path.{◌≡◌, refl, ap, sym, ◌∙◌}
+use Prim.Native.Nat.{ℕ, ◌<◌}
 use native.Mathlib.Omega.{arith}
 use lib.Dec.{eqb}
 use borrow.Author.Tests.{lt-leb}
 use Rattle.bits.proofs.Below.{digit_lt}
-use Rattle.bits.specs.Below.{digit, how_many}
-use Rattle.bits.specs.Byte.{is_waiting}
+use Rattle.bits.specs.Below.{digit}
 use Rattle.search.proofs.Order.{candidate_lt}
-use Rattle.search.specs.Candidate.{exists, channel_of}
 use Rattle.refusal.proofs.Numbers.{accepted_is}
 use Rattle.refusal.specs.Numbers.{is_accepted}
-use Rattle.chip.specs.Status.{is_armed, is_polled, is_rotating, candidate_of, status_byte}
+use Rattle.chip.specs.Status.{status_byte}
 use Rattle.chip.specs.declared.Chip.{Chip}
 use Rattle.decide.proofs.Passed.{passed_names}
 use Rattle.decide.proofs.Rules.{changes}
@@ -67,42 +65,15 @@ pub no_picture_lem : (s : Chain) (chip : ℕ) → is_accepted (pin_view chip s).
 unfolding pin_view
 no_picture_lem s chip off = simp off
 
--- the digits of a status byte
-record Digits (channel a p r e x : ℕ) (status : ℕ) : Type 0 where
-  s2_to_s0 : status % 8 ≡ channel
-  s3 : status / 8 % 2 ≡ a
-  s4 : status / 16 % 2 ≡ p
-  s5 : status / 32 % 2 ≡ r
-  s6 : status / 64 % 2 ≡ e
-  s7 : status / 128 % 2 ≡ x
-
-digits : (channel a p r e x : ℕ) → channel < 8 → a < 2 → p < 2 → r < 2 → e < 2 → x < 2
-    → Digits channel a p r e x (channel + 8 * a + 16 * p + 32 * r + 64 * e + 128 * x)
-digits channel a p r e x h ha hp hr he hx = search arith
-
 -- a digit read as a test
 is_digit : (n : ℕ) (b : Bool) → n ≡ digit b → eqb n 1 ≡ b
 is_digit n b is = search arith
 
 pub byte_bits : (c : Chip) (ei : Bool) → StatusBits (status_byte c ei) c ei
-byte_bits c ei =
-    let x : Bool = exists (candidate_of c) in
-    let d : Digits (channel_of (candidate_of c)) (digit (is_armed c)) (digit (is_polled c)) (digit (is_rotating c)) (digit ei) (digit x) (status_byte c ei) =
-    digits (channel_of (candidate_of c)) (digit (is_armed c)) (digit (is_polled c)) (digit (is_rotating c)) (digit ei) (digit x)
-    (candidate_lt c.irr c.imr c.isr c.mode c.pointer)
-    (digit_lt (is_armed c)) (digit_lt (is_polled c)) (digit_lt (is_rotating c)) (digit_lt ei) (digit_lt x) in
-    record {
-      s2_to_s0 = d.s2_to_s0;
-      s3 = is_digit _ (is_armed c) d.s3;
-      s4 = is_digit _ (is_polled c) d.s4;
-      s5 = is_digit _ (is_rotating c) d.s5;
-      s6 = is_digit _ ei d.s6;
-      s7 = is_digit _ x d.s7;
-    }
+byte_bits c ei = search (arith, candidate_lt, digit_lt, is_digit)
 
 table_bits : (s : Chain) (chip : ℕ) → sound s ≡ true → chip < s.count → StatusBits (register_view chip s).table.status (chip_at s chip) (ei s chip)
-table_bits s chip e h =
-    subst (λ (r : RegisterView). StatusBits r.table.status (chip_at s chip) (ei s chip)) (sym (table_given s chip e h)) (byte_bits (chip_at s chip) (ei s chip))
+table_bits s chip e h = search (arith, table_given, byte_bits)
 
 -- a status read and the table take the same byte
 read_byte : (s : Chain) (chip : ℕ) → accepts (Status chip) s ≡ true
@@ -113,17 +84,5 @@ read_byte s chip h =
     ap (λ (o : Outcome). (handed o.answer).byte) (by_its_rule (Status chip) s h)
     ∙ sym (ap (λ (r : RegisterView). r.table.status) (table_given s chip (passed_sound (Status chip) s v) (passed_names (Status chip) (seen_by (Status chip) s) refl (passed_tests (Status chip) s v))))
 
--- a count below eight, written out
-eight : (f : ℕ → Bool) → how_many 8 f ≡ digit (f 0) + digit (f 1) + digit (f 2) + digit (f 3) + digit (f 4) + digit (f 5) + digit (f 6) + digit (f 7)
-eight f = omega arith
-
 pub by_the_rules : ByTheRules
-by_the_rules =
-    record {
-      event = by_its_rule;
-      table = table_given;
-      picture = picture_given;
-      status_read = read_byte;
-      status_bits = table_bits;
-      waiting_is_a_sum = λ s chip. eight (is_waiting (chip_at s chip).irr (chip_at s chip).imr);
-    }
+by_the_rules = search (arith, by_its_rule, table_given, picture_given, read_byte, table_bits)

@@ -1,6 +1,5 @@
 -- What a refusal leaves as it was, proved: for an event, a start and the views by the verdict, for a run event by event.
 -- Assumes nothing.
-use Rattle.std.specs.Prelude.{Ok, Err}
 use mathlib.Core.Bool.{true, false}
 use mathlib.Core.List.{List}
 use mathlib.Core.Path.{◌≡◌, refl, ap, sym, ◌∙◌}
@@ -30,8 +29,7 @@ use Rattle.demands.proofs.Runs.{whole, counted}
 -- an event
 as_given : (v : Verdict) (e : Event) (s : Chain) → ((handed (judged v e s).answer).number ≡ 0 → ⊥) → (judged v e s).chain ≡ s
 unfolding judged accepted refused
-as_given (Err why) e s other = refl
-as_given (Ok tt) e s other = absurd (other (answers_zero e s))
+as_given v e s other = search (arith, answers_zero)
 
 no_byte : (v : Verdict) (e : Event) (s : Chain) → ((handed (judged v e s).answer).number ≡ 0 → ⊥)
     → ((handed (judged v e s).answer).drove ≡ 0) × ((handed (judged v e s).answer).byte ≡ 0)

@@ -2,7 +2,7 @@
 -- first pulse that counts is answered by the chip.
 -- Assumes nothing.
 use Rattle.std.proofs.lemmas.Option.{IfSome_then}
-use Rattle.std.specs.Prelude.{Some, None, Ok, Option}
+use Rattle.std.specs.Prelude.{Some, Ok}
 use mathlib.Core.Bool.{Bool, true, false, not, ◌&&◌}
 use mathlib.Core.List.{List, [], ◌∷◌}
 use mathlib.Core.Path.{◌≡◌, refl, ap, sym, subst, ◌∙◌}
@@ -12,8 +12,8 @@ use native.Mathlib.Omega.{arith}
 use lib.Dec.{eqb, lit<}
 use lib.ListN.{get_or, length}
 use lib.Seq.{get_or-set_same}
-use borrow.Author.Tests.{eqb-true, eqb-false, eq-eqb, not-true, leb-true}
-use Rattle.bits.proofs.Below.{digit_lt, both_left, both_right, every_each}
+use borrow.Author.Tests.{eqb-true, eq-eqb, not-true, leb-true}
+use Rattle.bits.proofs.Below.{both_left, both_right, every_each}
 use Rattle.bits.specs.Below.{digit, every}
 use Rattle.bits.specs.Byte.{bit, is_waiting}
 use Rattle.order.specs.Order.{channel_at}
@@ -24,7 +24,6 @@ use Rattle.refusal.proofs.Numbers.{not_both}
 use Rattle.refusal.specs.Numbers.{is_accepted}
 use Rattle.event.specs.declared.Event.{Event}
 use Rattle.event.specs.declared.Event.TheVariants.{Fall, Rise}
-use Rattle.chip.specs.Acknowledge.{answered}
 use Rattle.chip.proofs.Pointer.{answered_pointer, commanded_pointer, written_pointer, line_pointer, finished_pointer}
 use Rattle.chip.proofs.Soundness.{pointer_sound}
 use Rattle.chip.specs.Fields.{zero_chip}
@@ -36,21 +35,18 @@ use Rattle.response.specs.declared.Reply.{Reply}
 use Rattle.decide.proofs.Rules.{changes}
 use Rattle.decide.proofs.Soundness.{selected_is}
 use Rattle.decide.specs.Decided.{decided}
-use Rattle.decide.specs.Look.{unless_responding}
 use Rattle.decide.specs.Pulse.{driving, first_pulse, fallen}
 use Rattle.decide.specs.declared.Change.{Change}
-use Rattle.decide.specs.declared.Own.{Own}
 use Rattle.decide.specs.declared.Look.TheVariants.{Answering}
 use Rattle.chain.proofs.Acknowledge.{Answers, selected_answers, ei_high, reached_selected}
 use Rattle.chain.proofs.Rules.{chain_fields, applying}
 use Rattle.chain.proofs.Soundness.{chip_sound_lem}
-use Rattle.chain.specs.Apply.{replaced_in, setting_in, applied, decision, counted}
+use Rattle.chain.specs.Apply.{applied, decision, counted}
 use Rattle.chain.specs.Events.{accepted, judged, event_of}
 use Rattle.chain.specs.Fields.{chip_at}
 use Rattle.chain.specs.Refusals.{verdict_of}
 use Rattle.chain.specs.Seen.{seen_at, seen_in, seen_by, selected}
 use Rattle.chain.specs.Sound.{sound}
-use Rattle.chain.specs.Walk.{answering_chip}
 use Rattle.chain.specs.declared.Chain.{Chain}
 use Rattle.demands.specs.Kept.{replaces}
 use Rattle.demands.specs.Wait.{waits, is_first_pulse, is_for, is_for_another, answers_it, answers_another, resets, reaches, is_counted}
@@ -73,9 +69,6 @@ pointer_at s i = (chip_at s i).pointer
 
 middle_false : (a x b : Bool) → a ≡ true → b ≡ true → a && x && b ≡ false → x ≡ false
 middle_false a x b ea eb e = search arith
-
-last_false : (a b : Bool) → a ≡ true → a && b ≡ false → b ≡ false
-last_false a b ea e = search arith
 
 -- what is put in the place of chip i has its pointer
 module _ (s : Chain) (i : ℕ) where
@@ -120,37 +113,22 @@ in_list [] i e = not_both e
 in_list (c ∷ l) zero e = zero-lt-suc _
 in_list (c ∷ l) (suc i) e = suc-le-suc (in_list l i e)
 
-idle_is : (response : Response) → is_idle response ≡ true → response ≡ None
-idle_is response e = search arith
-
 -- chip i with another one put there
 pub put_there : (c : Change) (s : Chain) (i : ℕ) (new : Chip) → c.replaced ≡ Some (record { at = i; chip = new }) → is_armed (chip_at s i) ≡ true
     → chip_at (applied c s) i ≡ new
 unfolding applying
-put_there c s i new put armed = set c.own (replaced_in c s) ∙ rw put (get_or-set_same s.chips i new zero_chip (in_list s.chips i armed))
-  where
-    set : (own : Option Own) (t : Chain) → chip_at (setting_in own t) i ≡ chip_at t i
-    set (Some own) t = refl
-    set None t = refl
+put_there c s i new put armed = search (arith, get_or-set_same, in_list)
 
 first_pointer : (found : Response) (s : Chain) (r : Reply) → selected s ≡ found → found ≡ Some r → is_armed (chip_at s r.chip) ≡ true
     → pointer_at (applied (first_pulse found (seen_in Answering s)) s) r.chip ≡ r.channel
 unfolding changes driving first_pulse selected seen_at
-first_pointer found s r is under armed =
-    let at : r.chip ≡ answering_chip s = ap (λ (r : Reply). r.chip) (selected_is (seen_in Answering s) r (is ∙ under)).1 in
-    subst (λ (found : Response). pointer_at (applied (first_pulse found (seen_in Answering s)) s) r.chip ≡ r.channel) (sym under)
-    (ap (λ (c : Chip). c.pointer) (put_there (first_pulse (Some r) (seen_in Answering s)) s r.chip _ (ap (λ (at : ℕ). Some (record { at = at; chip = answered r.channel (seen_in Answering s).chip })) (sym at)) armed)
-    ∙ answered_pointer r.channel _)
+first_pointer found s r is under armed = search (arith, selected_is, put_there, answered_pointer)
 
 answer_pointer : (s : Chain) (r : Reply) → verdict_of Fall s ≡ Ok tt → is_idle s.response ≡ true → selected s ≡ Some r
     → is_armed (chip_at s r.chip) ≡ true
     → pointer_at (event_of Fall s).chain r.chip ≡ r.channel
 unfolding chain_fields event_of judged accepted counted decision decided fallen selected seen_at
-answer_pointer s r v idle is armed =
-    subst (λ v. pointer_at (judged v Fall s).chain r.chip ≡ r.channel) (sym v)
-    (subst (λ response. pointer_at (applied (fallen response (seen_in (unless_responding Answering response) s)) s) r.chip ≡ r.channel)
-    (sym (idle_is s.response idle))
-    (first_pointer (selected s) s r refl is armed))
+answer_pointer s r v idle is armed = search (arith, first_pointer)
 
 -- for another channel than the one that waits, it brings that one nearer
 rotating_last : (mode pointer : ℕ) → bit mode 0 ≡ true → last_of mode pointer ≡ pointer
@@ -175,10 +153,6 @@ other_nearer s r channel e h hc w v idle is other =
     subst (λ (p : ℕ). place_of p channel < place_of c.pointer channel) (sym (answer_pointer s r v idle is w.armed ∙ at))
     (waiting_nearer c.pointer c.irr c.imr channel (pointer_le s r.chip e h) hc w.request (λ same. other (at ∙ same)))
 
--- an event that is no answer of the chip for another channel
-no_other : (fp : Bool) (response : Response) (i channel : ℕ) → fp && is_responding response i ≡ false → fp && is_for_another i channel response ≡ false
-no_other fp response i channel e = search arith
-
 -- the parts of a first pulse
 pub record FirstPulse (e : Event) (s : Chain) : Type 0 where
   pub fall : e ≡ Fall
@@ -197,35 +171,13 @@ answered_step : (found : Response) (s : Chain) (i channel : ℕ) → selected s 
     → FirstPulse Fall s
     → is_for i channel found ≡ false
     → Nearer i channel Fall s
-answered_step None s i channel is here = not_both here
-answered_step (Some r) s i channel is here =
-    subst (λ (i : ℕ). sound s ≡ true → i < s.count → channel < 8 → waits (chip_at s i) channel ≡ true → FirstPulse Fall s → is_for i channel (Some r) ≡ false → Nearer i channel Fall s)
-    (eqb-true r.chip i here)
-    (λ e h hc w p other.
-    let ahead : place_of (pointer_at (event_of Fall s).chain r.chip) channel < place_of (pointer_at s r.chip) channel =
-    other_nearer s r channel e h hc (waiting_parts (chip_at s r.chip) channel w) p.accepted_fall p.idle is
-    (eqb-false r.channel channel (last_false (eqb r.chip r.chip) _ (eq-eqb r.chip r.chip refl) other)) in
-    let one : digit (answers_another r.chip channel Fall s) < 2 = digit_lt (answers_another r.chip channel Fall s) in
-    omega arith)
+answered_step found s i channel is here = search (arith, other_nearer)
 
 pub wait_step : (e : Event) (s : Chain) (i channel : ℕ) → sound s ≡ true → i < s.count → channel < 8 → waits (chip_at s i) channel ≡ true → resets i e s ≡ false
     → answers_it i channel e s ≡ false
     → Nearer i channel e s
 unfolding answers_it answers_another
-wait_step e s i channel here h hc w none other = by (is_first_pulse e s && is_responding (selected s) i) refl
-  where
-    still : (b : Bool) (p q : ℕ) → b ≡ false → p ≡ q → digit b + place_of p channel ≤ place_of q channel
-    still b p q none same = rw none (rw same (omega arith))
-
-    answered : (p : FirstPulse e s) → is_responding (selected s) i ≡ true → is_for i channel (selected s) ≡ false → Nearer i channel e s
-    answered p is other =
-        subst (λ (e : Event). FirstPulse e s → Nearer i channel e s) (sym p.fall) (λ p. answered_step (selected s) s i channel refl is here h hc w p other) p
-
-    by : (b : Bool) → is_first_pulse e s && is_responding (selected s) i ≡ b → Nearer i channel e s
-    by true is =
-        let fp : is_first_pulse e s ≡ true = both_left (is_first_pulse e s) _ is in
-        answered (first_pulse_parts e s fp) (both_right (is_first_pulse e s) _ is) (last_false (is_first_pulse e s) _ fp other)
-    by false is = still _ _ _ (no_other (is_first_pulse e s) (selected s) i channel is) (quiet_step e s i none is)
+wait_step e s i channel here h hc w none other = search (arith, answered_step, quiet_step)
 
 -- a first pulse that counts is answered by the chip
 pub counted-answered : (e : Event) (s : Chain) (i channel : ℕ) → sound s ≡ true → i < s.count → channel < 8 → waits (chip_at s i) channel ≡ true

@@ -3,13 +3,12 @@
 use native.Mathlib.Omega.{arith}
 use Rattle.std.proofs.lemmas.Option.{IfSome_then}
 use Rattle.std.specs.Prelude.{Ok, Err, IfSome}
-use mathlib.Core.Bool.{Bool, true, false}
+use mathlib.Core.Bool.{Bool}
 use mathlib.Core.List.{List}
-use mathlib.Core.Path.{◌≡◌, refl, sym, subst, ◌∙◌}
-use Prim.Native.Nat.{ℕ, ◌≤◌, min}
-use lib.Dec.{eqb, ltb}
+use mathlib.Core.Path.{◌≡◌, refl, ◌∙◌}
+use Prim.Native.Nat.{ℕ, min}
+use lib.Dec.{eqb}
 use lib.ListN.{length, replicate, length-set}
-use borrow.Author.Tests.{ltb-true, ltb-false}
 use Rattle.bits.proofs.Below.{either}
 use Rattle.std.proofs.lemmas.List.{get_or_past}
 use Rattle.refusal.specs.Numbers.{Verdict}
@@ -25,9 +24,7 @@ use Rattle.chip.specs.Line.{line_set}
 use Rattle.chip.specs.Reset.{reset, power_up}
 use Rattle.chip.specs.declared.Chip.{Chip}
 use Rattle.figure4.specs.declared.Command.{Command}
-use Rattle.figure4.specs.declared.Command.TheVariants.{Reset, ClearIrrAndImr, ClearIrrAndImrBit, ClearImr, ClearImrBit, SetImr, SetImrBit, ClearIrr, ClearIrrBit, SetIrr, SetIrrBit, ClearHighestIsr, ClearIsr, ClearIsrBit, LoadMode, LoadRead, LoadReadAndArm, LoadReadAndDisarm, PreselectImr, PreselectAcr, PreselectLevel}
 use Rattle.chip.specs.declared.Destination.{Destination}
-use Rattle.chip.specs.declared.Destination.TheVariants.{Nowhere, Imr, Acr, Level}
 use Rattle.decide.specs.Decided.{decided}
 use Rattle.decide.specs.declared.Seen.{Seen}
 use Rattle.chain.proofs.Kept.{applied_chips}
@@ -59,27 +56,7 @@ whole_as c d large w = search arith
 
 obeyed : (row : Command) (c : Chip) → AsLarge c (obey row c)
 unfolding chip_fields obey reset
-obeyed Reset c = record { counts = refl; memory = refl }
-obeyed ClearIrrAndImr c = record { counts = refl; memory = refl }
-obeyed (ClearIrrAndImrBit k) c = record { counts = refl; memory = refl }
-obeyed ClearImr c = record { counts = refl; memory = refl }
-obeyed (ClearImrBit k) c = record { counts = refl; memory = refl }
-obeyed SetImr c = record { counts = refl; memory = refl }
-obeyed (SetImrBit k) c = record { counts = refl; memory = refl }
-obeyed ClearIrr c = record { counts = refl; memory = refl }
-obeyed (ClearIrrBit k) c = record { counts = refl; memory = refl }
-obeyed SetIrr c = record { counts = refl; memory = refl }
-obeyed (SetIrrBit k) c = record { counts = refl; memory = refl }
-obeyed ClearHighestIsr c = record { counts = refl; memory = refl }
-obeyed ClearIsr c = record { counts = refl; memory = refl }
-obeyed (ClearIsrBit k) c = record { counts = refl; memory = refl }
-obeyed (LoadMode m) c = record { counts = refl; memory = refl }
-obeyed (LoadRead m) c = record { counts = refl; memory = refl }
-obeyed (LoadReadAndArm m) c = record { counts = refl; memory = refl }
-obeyed (LoadReadAndDisarm m) c = record { counts = refl; memory = refl }
-obeyed PreselectImr c = record { counts = refl; memory = refl }
-obeyed PreselectAcr c = record { counts = refl; memory = refl }
-obeyed (PreselectLevel count level) c = record { counts = length-set c.counts level count; memory = refl }
+obeyed row c = search (arith, length-set)
 
 commanded_as : (meaning : Meaning) (code : ℕ) (c : Chip) → AsLarge c (commanded meaning code c)
 unfolding chip_fields commanded
@@ -88,10 +65,7 @@ commanded_as (Err kind) code c = record { counts = refl; memory = refl }
 
 written_as : (d : Destination) (byte : ℕ) (c : Chip) → AsLarge c (data_written d byte c)
 unfolding chip_fields data_written
-written_as Nowhere byte c = record { counts = refl; memory = refl }
-written_as Imr byte c = record { counts = refl; memory = refl }
-written_as Acr byte c = record { counts = refl; memory = refl }
-written_as (Level level place) byte c = record { counts = refl; memory = length-set c.memory _ byte }
+written_as d byte c = search (arith, length-set)
 
 line_as : (channel : ℕ) (high : Bool) (c : Chip) → AsLarge c (line_set channel high c)
 unfolding chip_fields line_set
@@ -126,13 +100,7 @@ zero_whole = search arith
 
 -- every chip of a whole chain is whole, also what is seen past its records
 each_whole : (s : Chain) (i : ℕ) → Whole s → WholeChip (chip_at s i)
-each_whole s i w = by (ltb i 8) refl
-  where
-    by : (b : Bool) → ltb i 8 ≡ b → WholeChip (chip_at s i)
-    by true below = w.whole_chips i (ltb-true i 8 below)
-    by false past =
-        let most : 8 ≤ i = ltb-false i 8 past in
-        subst WholeChip (sym (get_or_past s.chips i zero_chip (subst (λ (n : ℕ). n ≤ i) (sym w.eight_chips) most))) zero_whole
+each_whole s i w = search (arith, get_or_past, zero_whole)
 
 judged_whole : (v : Verdict) (e : Event) (s : Chain) → Whole s → Whole (judged v e s).chain
 unfolding decision seen_at counted chain_fields

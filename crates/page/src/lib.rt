@@ -63,7 +63,7 @@ fn put_byte(to: &mut [u8], at: usize, answer: Answer) -> usize
     }
 }
 
-// Two lines for each chip in the count, with its number.
+// Two lines for each chip in the count. The loop is over numbers: each is printed, and the views ask for it.
 #[tactic(auto, using(crate::proofs::Chips::chips_more, crate::proofs::Chips::chips_end))]
 fn put_chips(to: &mut [u8], at: usize, chain: Chain) -> usize
     ensures { (to.new, result) ≡ written (to.old, at) (chips_from chain.count 0 chain) }

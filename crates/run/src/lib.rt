@@ -16,7 +16,7 @@ use chain::Chain;
 use image::LENGTH;
 use image::reading::chain_in;
 use image::writing::put_chain;
-use refusal::{Refusal, Verdict, is_accepted};
+use refusal::{Refusal, Verdict};
 
 // What a run reports, and the chain handed back. `accepted` counts the events accepted.
 #[derive(Clone, Copy)]
@@ -31,10 +31,9 @@ pub fn run(chain: Chain, bytes: &[u8], limit: usize, results: &mut [u8]) -> Ran
     ensures value { result ≡ (run_of chain bytes.now limit results.old).ran }
     ensures results_after { results.new ≡ (run_of chain bytes.now limit results.old).results }
 {
-    let verdict = before_any(chain, bytes.len(), results.len());
-    if !is_accepted(verdict) {
+    if let Err(why) = before_any(chain, bytes.len(), results.len()) {
         return Ran {
-            verdict,
+            verdict: Err(why),
             accepted: 0,
             chain,
         };

@@ -5,6 +5,7 @@ ghost use Rattle.run.specs.List.{listed_at};
 use event::{Event, Numbered, UnknownKind};
 
 // The n-th event of a list, from 0.
+#[tactic(auto, unfolding(crate::specs::List::listed_at))]
 pub(crate) fn listed_at(bytes: &[u8], n: usize) -> Result<Event, UnknownKind>
     requires { 4 * n + 4 ≤ length bytes.now }
     ensures { result ≡ listed_at bytes.now n }

@@ -53,6 +53,7 @@ fn perform_in(image: &mut [u8], bytes: &[u8], count: usize, results: &mut [u8]) 
     ensures results_after { stopped result.verdict result.accepted (chain_in image.new) results.new
         ≡ run_from count bytes.now 0 (chain_in image.old) results.old }
 {
+    // The number is the place in both lists, and what is reported: the events accepted.
     for n in 0..count {
         let answer = step_in(image, listed_at(bytes, n));
         match answer {

@@ -64,7 +64,7 @@ fn step_in(started: bool, line: &[u8]) -> Step
     }
 }
 
-// What stands behind the first word of a line.
+// What stands behind the first word of a line. (text has the same for itself; shared it would be a public call, with its own promise, for one expression.)
 #[tactic(auto, unfolding(text::specs::Words::behind))]
 fn behind(line: &[u8]) -> &[u8]
     ensures { result.now ≡ behind line.now }

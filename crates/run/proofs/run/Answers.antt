@@ -1,5 +1,6 @@
 -- `run::run` meets its contract.
-use mathlib.Core.Path.{◌≡◌, sym, ap, subst, ◌∙◌}
+use Rattle.std.specs.Prelude.{Err}
+use mathlib.Core.Path.{◌≡◌, refl, sym, ap, subst, ◌∙◌}
 use Prim.Native.Nat.{ℕ, ◌<◌}
 use lib.ListN.{length}
 use borrow.Author.Rules.{rules}
@@ -12,11 +13,10 @@ use Rattle.run.proofs.Owned.{chips_whole}
 use Rattle.run.specs.Run.{stopped, before_any, run_of}
 use Rattle.run.proofs.run.Goals as goal
 
-pub returns-then-not-is_accepted : goal.returns-then-not-is_accepted
+pub returns-in-Err : goal.returns-in-Err
 unfolding before_any
-returns-then-not-is_accepted c =
-    let ended : run_of c.args.chain c.args.bytes.now c.args.limit c.args.results.now ≡ stopped c.before_any-verdict.result 0 c.args.chain c.args.results.now =
-    refused_before c.args.chain c.args.bytes.now c.args.limit c.args.results.now c.before_any-verdict.result c.before_any-verdict.ensures (sym c.is_accepted.ensures ∙ c.if-not-is_accepted.true) in
+returns-in-Err c =
+    let ended = refused_before c.args.chain c.args.bytes.now c.args.limit c.args.results.now (Err c.in-Err.why) (sym c.in-Err.is ∙ c.before_any.ensures) refl in
     record {
       value = sym (ap (λ r. r.ran) ended);
       results_after = sym (ap (λ r. r.results) ended);
@@ -33,7 +33,7 @@ run_in-reached-requires c =
     } in
     let same : chain_in c.put_chain.new.image ≡ c.args.chain = ap chain_in c.put_chain.ensures ∙ read_back c.args.chain whole in record {
       image_form = ap is_image c.put_chain.ensures ∙ of_the_layout c.args.chain whole;
-      results_value = ap (λ s. is_accepted (before_any s c.args.bytes.now c.args.results.now)) same ∙ ap is_accepted (sym c.before_any-verdict.ensures) ∙ sym c.is_accepted.ensures ∙ c.if-not-is_accepted.false;
+      results_value = ap (λ s. is_accepted (before_any s c.args.bytes.now c.args.results.now)) same ∙ ap is_accepted (sym c.before_any.ensures ∙ c.in_default.is);
     }
 
 pub returns : goal.returns

@@ -20,26 +20,8 @@ use Rattle.run.specs.List.{listed_at}
 use Rattle.run.specs.Run.{noted, run_from, stopped, listed_outcome}
 use Rattle.run.proofs.on_image.perform_in.Goals as goal
 
-pub loop-n-init : goal.loop-n-init
-loop-n-init c = (omega arith, c.requires.image_form, c.requires.chain_sound, refl, ap (λ left. run_from left c.args.bytes.now 0 (chain_in c.args.image.now) c.args.results.now) (sym (sub-zero _)))
-
-pub listed_at-requires : goal.listed_at-requires
-listed_at-requires c = omega (arith, c.requires.count_in_bounds)
-
-pub step_in-answer-requires : goal.step_in-answer-requires
-step_in-answer-requires c = record {
-  image_form = c.loop-n.invariant.1;
-  chain_sound = c.loop-n.invariant.2;
-}
-
-pub shape_of-image-in-Err : goal.shape_of-image-in-Err
-shape_of-image-in-Err c = image_length c.step_in-answer.new.image c.step_in-answer.ensures.form_after ∙ sym (image_length c.args.image.now c.requires.image_form)
-
-pub shape_of-results-in-Err : goal.shape_of-results-in-Err
-shape_of-results-in-Err c = c.loop-n.invariant.3
-
-pub returns-in-Err : goal.returns-in-Err
-returns-in-Err c =
+pub returns-in-Err-clause-results_after : goal.returns-in-Err-clause-results_after
+returns-in-Err-clause-results_after c =
     let bytes : List ℕ = c.args.bytes.now in
     let n : ℕ = c.loop-n.n in
     let s : Chain = chain_in c.loop-n.image in
@@ -48,13 +30,8 @@ returns-in-Err c =
     let left : chain_in c.step_in-answer.new.image ≡ o.chain = c.step_in-answer.ensures.chain_after ∙ ap (λ l. (listed_outcome l s).chain) c.listed_at.ensures in
     let off : is_accepted (verdict_in o.answer) ≡ false = ap (λ a. is_accepted (verdict_in a)) (sym answered ∙ c.in-Err.is) in
     let ended : run_from c.args.count bytes 0 (chain_in c.args.image.now) c.args.results.now ≡ stopped (verdict_in o.answer) n s c.loop-n.results =
-    c.loop-n.invariant.4 ∙ stops (c.args.count - n) (c.args.count - (n + 1)) bytes n s c.loop-n.results o (omega arith) refl off in record {
-      form_after = c.step_in-answer.ensures.form_after;
-      results_after = ap₂ (λ v t. stopped v n t c.loop-n.results) (ap verdict_in (sym c.in-Err.is ∙ answered)) (left ∙ step_same (listed_at bytes n) s off) ∙ sym ended;
-    }
-
-pub note-requires : goal.note-requires
-note-requires c = omega (arith, c.requires.room_in_bounds, c.loop-n.invariant.3)
+    c.loop-n.invariant.4 ∙ stops (c.args.count - n) (c.args.count - (n + 1)) bytes n s c.loop-n.results o (omega arith) refl off in
+    ap₂ (λ v t. stopped v n t c.loop-n.results) (ap verdict_in (sym c.in-Err.is ∙ answered)) (left ∙ step_same (listed_at bytes n) s off) ∙ sym ended
 
 pub loop-n-preserved : goal.loop-n-preserved
 loop-n-preserved c =
@@ -75,21 +52,13 @@ loop-n-preserved c =
           ∙ ap₂ (run_from (c.args.count - (n + 1)) bytes (n + 1)) (sym left) noted_here,
     )
 
-pub shape_of-image : goal.shape_of-image
-shape_of-image c = image_length c.loop-n.image c.loop-n.invariant.1 ∙ sym (image_length c.args.image.now c.requires.image_form)
-
-pub shape_of-results : goal.shape_of-results
-shape_of-results c = c.loop-n.invariant.3
-
-pub returns : goal.returns
+pub returns-clause-results_after : goal.returns-clause-results_after
 unfolding run_from
-returns c =
+returns-clause-results_after c =
     let none_left : c.args.count - c.loop-n.n ≡ 0 = omega arith in
     let at-end : c.loop-n.n ≡ c.args.count = omega arith in
     let ended : run_from c.args.count c.args.bytes.now 0 (chain_in c.args.image.now) c.args.results.now ≡ stopped (Ok tt) c.args.count (chain_in c.loop-n.image) c.loop-n.results =
     c.loop-n.invariant.4
     ∙ ap (λ left. run_from left c.args.bytes.now c.loop-n.n (chain_in c.loop-n.image) c.loop-n.results) none_left
-    ∙ ap (λ n. stopped (Ok tt) n (chain_in c.loop-n.image) c.loop-n.results) at-end in record {
-      form_after = c.loop-n.invariant.1;
-      results_after = sym ended;
-    }
+    ∙ ap (λ n. stopped (Ok tt) n (chain_in c.loop-n.image) c.loop-n.results) at-end in
+    sym ended
