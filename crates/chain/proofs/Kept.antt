@@ -3,6 +3,7 @@
 use Rattle.std.specs.Prelude.{Ok, Err, Option, Some, None, IfSome}
 use mathlib.Core.Bool.{Bool, true}
 use mathlib.Core.Logic.{⊎_elim}
+use native.Mathlib.Omega.{arith}
 use mathlib.Core.Path.{◌≡◌, refl, ap, sym, subst, ◌∙◌}
 use Prim.Native.Nat.{ℕ, ◌<◌}
 use native.Mathlib.Nat.{lt_of_lt_of_le}
@@ -60,15 +61,7 @@ applied_chips P c s k new old = set c.own (replaced_in c s) (put c.replaced new)
 
 pub applied_count : (c : Change) (s : Chain) → (applied c s).count ≡ s.count
 unfolding applying
-applied_count c s = set c.own (replaced_in c s) ∙ put c.replaced
-  where
-    set : (own : Option Own) (t : Chain) → (setting_in own t).count ≡ t.count
-    set (Some own) t = refl
-    set None t = refl
-
-    put : (replaced : Option Replaced) → (replacing_in replaced s).count ≡ s.count
-    put (Some replaced) = refl
-    put None = refl
+applied_count c s = search arith
 
 -- its response and the level of IACK are those of before, or those that it sets
 applied_response : (c : Change) (s : Chain) → IfSome c.own (λ own. response_sound s.count own.iack own.response ≡ true)

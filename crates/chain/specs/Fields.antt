@@ -1,4 +1,4 @@
--- A chain with its own fields, its event number or one of its chips replaced. antt has no record update, so the whole record is spelt out here, and besides in Start alone.
+-- A chain with its own fields, its event number or one of its chips replaced: the record is spelt out here, and besides in Start alone.
 use Rattle.std.specs.Prelude.{None, Bool, false, List, ℕ, get_or, set, replicate}
 use Rattle.chip.specs.Fields.{zero_chip}
 use Rattle.chip.specs.declared.Chip.{Chip}

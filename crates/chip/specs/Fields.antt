@@ -1,4 +1,4 @@
--- A chip with one field replaced. antt has no record update, so the whole record is spelt out in this file, and in no other.
+-- A chip with one field replaced: the record is spelt out in this file, and in no other.
 use Rattle.std.specs.Prelude.{List, ℕ, replicate}
 use Rattle.chip.specs.declared.Chip.{Chip}
 use Rattle.chip.specs.declared.Destination.{Destination}

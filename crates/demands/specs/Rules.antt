@@ -35,8 +35,8 @@ pub record ByTheRules : Type 0 where
   -- an accepted event answers by its rule, and leaves the chain of its rule, counted: each register and each response byte
   pub event : (e : Event) (s : Chain) → accepts e s ≡ true → event_of e s ≡ record { answer = answer_of e s; chain = counted (changed e s) }
   -- the views of a chip in the count of a sound chain are given: each register, the status byte and each pin, with the chain's event number
-  pub table : (s : Chain) (chip : ℕ) → sound s ≡ true → chip < s.count → register_view chip s ≡ record { verdict = (Ok tt); table = table_of chip s }
-  pub picture : (s : Chain) (chip : ℕ) → sound s ≡ true → chip < s.count → pin_view chip s ≡ record { verdict = (Ok tt); picture = picture_of chip s }
+  pub table : (s : Chain) (chip : ℕ) → sound s ≡ true → chip < s.count → register_view chip s ≡ record { verdict = Ok tt; table = table_of chip s }
+  pub picture : (s : Chain) (chip : ℕ) → sound s ≡ true → chip < s.count → pin_view chip s ≡ record { verdict = Ok tt; picture = picture_of chip s }
   -- the status byte that is read is that of the table of the same state
   pub status_read : (s : Chain) (chip : ℕ) → accepts (Status chip) s ≡ true
       → (handed (event_of (Status chip) s).answer).byte ≡ (register_view chip s).table.status

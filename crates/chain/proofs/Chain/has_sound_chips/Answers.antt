@@ -3,7 +3,6 @@ use Rattle.std.proofs.Common.{ℕ, Bool, refl, ◌∙◌, rules, tests}
 use native.Mathlib.Omega.{arith}
 use Rattle.std.proofs.lemmas.Iterator.{YieldsList-from_range}
 use Rattle.std.proofs.lemmas.Iterator.Search.{all_from_yields_List}
-use Rattle.bits.specs.Below.{every}
 use Rattle.chip.specs.Sound.{chip_sound}
 use Rattle.chain.specs.Fields.{chip_at}
 use Rattle.chain.specs.Sound.{chips_sound}
