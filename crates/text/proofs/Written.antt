@@ -3,13 +3,13 @@
 use mathlib.Core.Bool.{Bool, true, false, cond}
 use mathlib.Core.List.{List, [], ◌∷◌, ◌++◌}
 use mathlib.Core.Path.{◌≡◌, refl, sym, ap, ap₂, ◌∙◌}
-use Prim.Native.Nat.{ℕ, zero, suc, ◌+◌, ◌-◌, ◌≤◌, min}
+use Prim.Native.Nat.{ℕ, zero, suc, ◌+◌, ◌≤◌, ◌<◌, min}
+use native.Mathlib.Numerals.{add-one}
 use native.Mathlib.Omega.{arith}
 use borrow.Author.Tests.{lt-ltb, le-ltb}
 use lib.Dec.{ltb}
-use lib.ListN.{length, set, take, drop, length-set, length-append, length-drop}
-use Rattle.std.proofs.Common.{take-append-drop}
-use lib.Seq.{set-append_seam, append_snoc, length-take-le}
+use lib.ListN.{length, get_or, set, take, drop, length-set, length-append, drop_of_length-le}
+use lib.Seq.{set-append_seam, append_snoc, drop-cons}
 use Rattle.text.specs.Written.{stored, written, joined}
 
 -- a text behind another is both, one after the other
@@ -24,12 +24,28 @@ pub ruleset one_after_the_other = (written-append)
 pub again : {s t : List ℕ × ℕ} (x : List ℕ) → s ≡ t → written s x ≡ written t x
 again x e = ap (λ to. written to x) e
 
+-- the next byte of a text, where there is room for it
+pub written_more : (to from : List ℕ) (at k : ℕ) → k < length from → at < length to → written (to, at) (drop k from) ≡ written (set to at (get_or from k 0), at + 1) (drop (k + 1) from)
+unfolding written
+written_more to from at k more room =
+    ap (written (to, at)) (drop-cons from k 0 more)
+    ∙ ap (λ s. written s (drop (suc k) from)) (stored_room to at (get_or from k 0) room)
+    ∙ ap (λ (n : ℕ). written (set to at (get_or from k 0), at + 1) (drop n from)) (sym (add-one k))
+  where
+    stored_room : (to : List ℕ) (at b : ℕ) → at < length to → stored (to, at) b ≡ (set to at b, at + 1)
+    stored_room to at b h = simp (lt-ltb _ _ h)
+
 -- no text
 pub written_none : (to : List ℕ × ℕ) → written to [] ≡ to
 unfolding written
 written_none to = refl
 
--- where there is no room left
+-- where there is no text left
+pub written_end : (to : List ℕ × ℕ) (from : List ℕ) (k : ℕ) → length from ≤ k → written to (drop k from) ≡ to
+unfolding written
+written_end to from k h = ap (written to) (drop_of_length-le from h)
+
+-- and where there is no room left
 pub written_full : (to : List ℕ × ℕ) (from : List ℕ) → length to.0 ≤ to.1 → written to from ≡ to
 unfolding written
 written_full to [] h = refl
@@ -61,17 +77,6 @@ put_there before (x ∷ xs) (b ∷ bs) (suc n) is =
     ∙ ap₂ (λ l (k : ℕ). written (l, k) bs) (set-append_seam before x xs b ∙ sym (append_snoc before b xs)) (sym (length-append before (b ∷ [])))
     ∙ put_there (before ++ (b ∷ [])) xs bs n (omega (arith, is))
     ∙ ap₂ (λ l (k : ℕ). (l, k)) (append_snoc before b (take n bs ++ drop n xs)) (omega (arith, length-append before (b ∷ [])))
-
-pub put_at :
-    (to from : List ℕ) (at n : ℕ)
-    → at ≤ length to
-    → n ≡ min (length from) (length to - at)
-    → written (to, at) from ≡ (take at to ++ (take n from ++ drop n (drop at to)), at + n)
-put_at to from at n h is =
-    let there : length (take at to) ≡ at = length-take-le at to h in
-    ap₂ (λ l (k : ℕ). written (l, k) from) (sym (take-append-drop at to)) (sym there)
-    ∙ put_there (take at to) (drop at to) from n (omega (arith, is, length-drop at to))
-    ∙ ap (λ (k : ℕ). (take at to ++ (take n from ++ drop n (drop at to)), k + n)) there
 
 -- parts written one by one
 abbrev pub written_all : List ℕ × ℕ → List (List ℕ) → List ℕ × ℕ

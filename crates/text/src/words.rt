@@ -1,6 +1,6 @@
 // The lines of a text, and the words of a line: bytes that stand together, parted by blanks; a comment mark ends the last one.
 ghost use Rattle.std.specs.Prelude.{◌≡◌, ◌≤◌, length, take};
-ghost use Rattle.text.specs.Words.{is_blank, is_letter, line_end, word_start, word_end, behind, word_at};
+ghost use Rattle.text.specs.Words.{is_blank, is_letter, line_end, word_start, word_end, word, behind, word_at};
 ghost use Rattle.text.specs.Words.{begins as Words·begins};
 
 // Where the first line of a text ends: at its line feed, or at the end.
@@ -38,7 +38,15 @@ pub fn word_at(line: &[u8], k: u8) -> &[u8]
     for _ in 0..k {
         rest = behind(rest);
     }
-    &rest[word_start(rest)..word_end(rest)]
+    word(rest)
+}
+
+// The first word of a line. Its blanks are passed once.
+fn word(line: &[u8]) -> &[u8]
+    ensures { result.now ≡ word line.now }
+{
+    let from = &line[word_start(line)..];
+    &from[..word_end(from)]
 }
 
 // What stands behind the first word of a line.
