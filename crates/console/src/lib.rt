@@ -1,11 +1,11 @@
-// What the programs share: an input line by line, in memory that does not grow with it; what fails when they read and write; and what is told on standard error.
+// What the programs share: an input line by line, in memory that its program has from the beginning; what fails when they read and write; and what is told on standard error.
 // These are steps of programs, over std's readers and printers, which `main` hands them: they are proved to be safe and to end, and no more.
 #![tactic(auto)]
 
 use std::fmt::Display;
-use std::io::{BufRead, Cursor, Error, Read, Result, Write};
+use std::io::{Cursor, Error, Read, Write};
 use text::put::put;
-use text::words::first;
+use text::words::{first, line_end};
 
 // A line of an input, without its line feed: one with a line feed behind it, or the last one, behind which the input ends.
 #[derive(Clone, Copy)]
@@ -14,21 +14,55 @@ pub enum Line<'a> {
     Last(&'a [u8]),
 }
 
-// The next line that `from` reads, put into `room`. A line that fills its room, of so many bytes with its line feed, is taken for a whole one: it is longer than a line may be,
-// and nothing of what is behind it is read.
-pub fn next_line<'a>(
-    from: &mut impl BufRead,
-    most: usize,
-    room: &'a mut Vec<u8>,
-) -> Result<Line<'a>> {
-    room.clear();
-    from.by_ref().take(most as u64).read_until(b'\n', room)?;
-    let line = room.as_slice();
-    Ok(match line.strip_suffix(b"\n") {
-        Some(whole) => Line::Whole(whole),
-        None if line.len() < most => Line::Last(line),
-        None => Line::Whole(line),
-    })
+// How far an input has been read: of the piece that was read last, which bytes are still to be handed out, from a place up to another.
+// The piece is lent, and no reader of the library's: that one takes its memory from the heap, and a program that has come to its input could still run out of it.
+#[derive(Clone, Copy)]
+pub struct Input {
+    pub at: usize,
+    pub end: usize,
+}
+
+impl Input {
+    // Before the first byte.
+    pub fn new() -> Input {
+        Input { at: 0, end: 0 }
+    }
+
+    // The next line that `from` reads, by pieces, put into `room`. A line that fills its room is taken for a whole one: it is longer than a line may be, and has room for one byte more
+    // than that. Each turn but the last puts a byte at least.
+    pub fn next_line<'a>(
+        &mut self,
+        from: &mut impl Read,
+        piece: &mut [u8],
+        room: &'a mut [u8],
+    ) -> Result<Line<'a>, Failure> {
+        let mut filled = 0;
+        for _ in 0..room.len() {
+            if self.at >= self.end {
+                self.at = 0;
+                self.end = from.read(piece).map_err(Failure::Input)?;
+                if self.end == 0 {
+                    return Ok(Line::Last(first(room, filled)));
+                }
+            }
+            let left = first(piece, self.end).get(self.at..).unwrap_or(&[]);
+            let n = line_end(left);
+            filled = put(room, filled, &left[..n]);
+            self.at = self.at.saturating_add(n).saturating_add(1);
+            if n < left.len() {
+                return Ok(Line::Whole(first(room, filled)));
+            }
+            if filled >= room.len() {
+                break;
+            }
+        }
+        Ok(Line::Whole(first(room, filled)))
+    }
+}
+
+// Hands on what has been printed.
+pub fn hand_on(to: &impl Print, printed: &[u8]) -> Result<(), Failure> {
+    to.write_all(printed).map_err(Failure::Output)
 }
 
 // What a program cannot go on without.

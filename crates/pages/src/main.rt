@@ -2,9 +2,8 @@
 // What a line says and what it prints is proved in steps, page and report. Here each line of the input is handed to the report, and what it prints is handed on at once.
 #![tactic(auto)]
 
-use console::{Failure, Line, next_line, tell};
-use report::{Course, PAGE, Report, Taken};
-use std::io::{BufRead, BufReader};
+use console::{Failure, Input, Line, hand_on, tell};
+use report::{Course, PAGE, Report};
 use steps::line::LONGEST;
 use text::words::first;
 
@@ -16,27 +15,28 @@ const PIECE: usize = 65536;
 
 // Reads on until the report has ended. A proved loop has to end, and nothing says that the input does: this one counts to a number that no run comes to.
 fn print_pages(rt: &HostRuntime) -> Result<(), Failure> {
-    let mut from = BufReader::with_capacity(rt.alloc(), PIECE, rt.stdin()).map_err(Failure::Input)?;
-    let mut room = Vec::new(rt.alloc());
+    let mut from = rt.stdin();
+    let mut input = Input::new();
+    let mut piece = [0u8; PIECE];
+    let mut room = [0u8; LONGEST + 1];
     let mut page = [0u8; PAGE];
     let mut report = Report::new();
     for _ in 0..u64::MAX {
-        let line = next_line(&mut from, LONGEST + 1, &mut room).map_err(Failure::Input)?;
+        let line = input.next_line(&mut from, &mut piece, &mut room)?;
         let taken = match line {
             Line::Whole(text) => report.take(text, &mut page),
             Line::Last(text) => report.take_last(text, &mut page),
         };
         let printed = first(&page, taken.length);
-        rt.stdout().write_all(printed).map_err(Failure::Output)?;
-        match taken.course {
-            Course::GoesOn => report = taken.report,
-            Course::Over => break,
-            // What stops a report is told too, so that the script knows.
-            Course::Stopped => {
-                tell(&rt.stderr(), &NAME, printed);
-                break;
-            }
+        hand_on(&rt.stdout(), printed)?;
+        // What stops a report is told too, so that the script knows.
+        if matches!(taken.course, Course::Stopped) {
+            tell(&rt.stderr(), &NAME, printed);
         }
+        if taken.course.has_ended() {
+            break;
+        }
+        report = taken.report;
     }
     Ok(())
 }
