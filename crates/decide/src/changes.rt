@@ -36,13 +36,16 @@ impl Change {
         self
     }
 
-    // Chip i is replaced.
+    // Chip i is replaced. The record is written out: a store to its field has the chip copied once more.
     #[tactic(auto, unfolding(crate::specs::Change::replacing))]
-    pub(crate) fn replacing(mut self, i: u8, chip: Chip) -> Change
+    pub(crate) fn replacing(self, i: u8, chip: Chip) -> Change
         ensures { result ≡ replacing i chip self }
     {
-        self.replaced = Some(Replaced { at: i, chip });
-        self
+        Change {
+            answer: self.answer,
+            replaced: Some(Replaced { at: i, chip }),
+            own: self.own,
+        }
     }
 
     // The chain's own fields are set.
