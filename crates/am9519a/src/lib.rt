@@ -12,6 +12,7 @@ ghost use Rattle.am9519a.specs.Calls.{start_call, run_left, run_call, registers_
 use crate::shown::{chain_of, picture_bytes, put_view, table_bytes};
 use chain::Chain;
 use image::writing::put_chain;
+use refusal::answers::verdict_in;
 use refusal::sentences::{meaning_length, put_meaning};
 use refusal::{Refusal, Verdict, verdict_number};
 use run::on_image::run_in;
@@ -40,7 +41,7 @@ fn start(count: u8, fill: u8, image: &mut [u8]) -> Verdict
         return Err(Refusal::NotSound);
     }
     let started = Chain::start(count, fill);
-    started.answer?;
+    verdict_in(started.answer)?;
     put_chain(image, started.chain);
     Ok(())
 }

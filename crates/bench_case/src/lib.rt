@@ -2,7 +2,7 @@
 #![tactic(auto)]
 
 use chain::{Chain, Outcome};
-use refusal::{Answer, is_accepted};
+use refusal::{Answer, answers, is_accepted};
 use views::{Pins, Registers, pin_view, register_view};
 
 #[derive(Clone, Copy)]
@@ -33,7 +33,7 @@ impl Bench {
     fn refused(self, outcome: Outcome, number: u8) -> Bench {
         Bench {
             chain: outcome.chain,
-            held: self.held && matches!(outcome.answer, Err(why) if why.number() == number),
+            held: self.held && answers::number(outcome.answer) == number,
         }
     }
 

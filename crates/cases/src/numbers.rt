@@ -1,6 +1,7 @@
 // K1 to K14 (the rules paper, "On the bench"). Codes are hex; one chip and fill 0 unless said.
 use bench_case::Bench;
 use chain::Chain;
+use refusal::answers;
 
 // K1 start, status: 40. As after reset, so all is masked.
 pub(crate) fn k1() -> Bench {
@@ -158,7 +159,7 @@ pub(crate) fn k12() -> bool {
 // K13 counts 8 and 9 at start: 0 and 1; channels 7 and 8: 0 and 3.
 pub(crate) fn k13() -> bool {
     let eight = Bench::start(8, 0).line(0, 7, 0).line_refused(0, 8, 0, 3);
-    eight.held && matches!(Chain::start(9, 0).answer, Err(why) if why.number() == 1)
+    eight.held && answers::number(Chain::start(9, 0).answer) == 1
 }
 
 // K14 fall twice: second 6; a command then: 5.

@@ -10,6 +10,7 @@ use chain::{Chain, Outcome};
 use event::Numbered;
 use messages::{put_malformed, put_refused};
 use page::put_page;
+use refusal::answers::verdict_in;
 use steps::kinds::START;
 use steps::line::{found_in, step_of};
 use steps::{Expected, Step};
@@ -113,8 +114,8 @@ impl Report {
         ensures { Tells (step_reply step outcome.answer outcome.chain self) page.old result page.new }
     {
         let Outcome { answer, chain } = outcome;
-        match answer {
-            Ok(_) => self.goes_on(
+        match verdict_in(answer) {
+            Ok(()) => self.goes_on(
                 true,
                 chain,
                 put_page(page, 0, self.line, step, answer, chain),
