@@ -3,13 +3,14 @@
 use mathlib.Core.Bool.{Bool, true, false, cond}
 use mathlib.Core.List.{List, [], ◌∷◌, ◌++◌}
 use mathlib.Core.Path.{◌≡◌, refl, sym, ap, ap₂, ◌∙◌}
-use Prim.Native.Nat.{ℕ, zero, suc, ◌+◌, ◌≤◌, ◌<◌, min}
+use Prim.Native.Nat.{ℕ, zero, suc, ◌+◌, ◌-◌, ◌≤◌, ◌<◌, min}
 use native.Mathlib.Numerals.{add-one}
 use native.Mathlib.Omega.{arith}
 use borrow.Author.Tests.{lt-ltb, le-ltb}
 use lib.Dec.{ltb}
-use lib.ListN.{length, get_or, set, take, drop, length-set, length-append, drop_of_length-le}
-use lib.Seq.{set-append_seam, append_snoc, drop-cons}
+use lib.ListN.{length, get_or, set, take, drop, length-set, length-append, length-drop, drop_of_length-le}
+use Rattle.std.proofs.Common.{take-append-drop}
+use lib.Seq.{set-append_seam, append_snoc, drop-cons, length-take-le}
 use Rattle.text.specs.Written.{stored, written, joined}
 
 -- a text behind another is both, one after the other
@@ -77,6 +78,18 @@ put_there before (x ∷ xs) (b ∷ bs) (suc n) is =
     ∙ ap₂ (λ l (k : ℕ). written (l, k) bs) (set-append_seam before x xs b ∙ sym (append_snoc before b xs)) (sym (length-append before (b ∷ [])))
     ∙ put_there (before ++ (b ∷ [])) xs bs n (omega (arith, is))
     ∙ ap₂ (λ l (k : ℕ). (l, k)) (append_snoc before b (take n bs ++ drop n xs)) (omega (arith, length-append before (b ∷ [])))
+
+-- and of any buffer, at a place in it
+pub put_at :
+    (to from : List ℕ) (at n : ℕ)
+    → at ≤ length to
+    → n ≡ min (length from) (length to - at)
+    → written (to, at) from ≡ (take at to ++ (take n from ++ drop n (drop at to)), at + n)
+put_at to from at n h is =
+    let there : length (take at to) ≡ at = length-take-le at to h in
+    ap₂ (λ l (k : ℕ). written (l, k) from) (sym (take-append-drop at to)) (sym there)
+    ∙ put_there (take at to) (drop at to) from n (omega (arith, is, length-drop at to))
+    ∙ ap (λ (k : ℕ). (take at to ++ (take n from ++ drop n (drop at to)), k + n)) there
 
 -- parts written one by one
 abbrev pub written_all : List ℕ × ℕ → List (List ℕ) → List ℕ × ℕ
